@@ -18,16 +18,16 @@ NO_MORE = "ra: standard output says what came of it; no memory is left to say mo
 # How many runs are made before it is looked whether one met a refusal: of threads, one run may ask for less memory than another.
 GROUP = 16
 
-REFUSED = """the client may not ask or release here: the node does not exist, the client already waits, is queued or holds the \
-name, it releases a name that it does not hold, or no number is left
+REFUSED = """the step may not come here: the node does not exist, the client already waits, is queued or holds the name, it \
+releases a name that it does not hold or cancels one for which it does not wait, or no number is left
 """
 NOT_DUE = "these are not the marks of the step: one is missing before this line, or this one does not belong here\n"
 NOT_UNDER_WAY = "this message is not under way: it was never sent, or was already delivered or lost\n"
 NOT_ALLOWED = """the lock table does not allow this mark: a conflicting request holds the name or came earlier, its own request \
 does not wait or hold, its node already waits or holds, or its number is not above every number granted
 """
-NOT_A_MARK = """not a mark: expected request, enter or leave and then NODE CLIENT NAME MODE SEQ, separated by single spaces and \
-ended by a line feed alone
+NOT_A_MARK = """not a mark: expected request, enter, leave or withdraw and then NODE CLIENT NAME MODE SEQ, separated by single \
+spaces and ended by a line feed alone
 """
 NOT_SENT = "its sender's book did not send this frame with this clock: expected one that ra node prints for that book\n"
 NOT_TAKEN = "the node of this book does not take this event: give the book to ra node to see why\n"
@@ -106,7 +106,7 @@ class Growth(PreloadTest):
         self.expect_growth(f"{words} --find finished --as-choices", SCRIPT, "c1 m0 m0 c1\n", **found)
 
     def test_growth_of_the_version(self):
-        self.expect_growth("--version", "", "ra 0.2.0-dev (frames 1 and 2, traces 1 and 2)\n")
+        self.expect_growth("--version", "", "ra 0.2.0 (frames 1 and 2, traces 1 to 3, books 1 and 2)\n")
 
     def test_growth_of_draw(self):
         begins = b'<svg xmlns="http://www.w3.org/2000/svg"'

@@ -10,19 +10,19 @@ from cases import FOLDER, LIMIT
 HOST = f"{FOLDER}/../examples/lock-service/host.py"
 # The first lines of other files, and what is said of each.
 OTHERS = {
-    b"[Unit]\n": "is no book of a node: it begins with '[Unit]', and not with a line such as 'book 1 2 3 0'",
-    b"\x7fELF\x02\n": r"is no book of a node: it begins with '\x7fELF\x02', and not with a line such as 'book 1 2 3 0'",
-    b"book 1 2 3 0\r\n": r"is no book of a node: it begins with 'book 1 2 3 0\r', and not with a line such as 'book 1 2 3 0'",
-    b"book 1 2 65 0\n": "is no book of a node: it begins with 'book 1 2 65 0', and not with a line such as 'book 1 2 3 0'",
-    b"book 1 4 3 0\n": "is no book of a node: it begins with 'book 1 4 3 0', and not with a line such as 'book 1 2 3 0'",
+    b"[Unit]\n": "is no book of a node: it begins with '[Unit]', and not with a line such as 'book 2 2 3 0'",
+    b"\x7fELF\x02\n": r"is no book of a node: it begins with '\x7fELF\x02', and not with a line such as 'book 2 2 3 0'",
+    b"book 1 2 3 0\r\n": r"is no book of a node: it begins with 'book 1 2 3 0\r', and not with a line such as 'book 2 2 3 0'",
+    b"book 1 2 65 0\n": "is no book of a node: it begins with 'book 1 2 65 0', and not with a line such as 'book 2 2 3 0'",
+    b"book 1 4 3 0\n": "is no book of a node: it begins with 'book 1 4 3 0', and not with a line such as 'book 2 2 3 0'",
     b"book 1 2 3 18446744073709551616\n":
-        "is no book of a node: it begins with 'book 1 2 3 18446744073709551616', and not with a line such as 'book 1 2 3 0'",
+        "is no book of a node: it begins with 'book 1 2 3 18446744073709551616', and not with a line such as 'book 2 2 3 0'",
     b"book 1 1 3 0\n": "is of node 1 of 3 with numbers from 0 on, and not of node 2 of 3 with numbers from 0 on",
     b"book 1 2 64 0\n": "is of node 2 of 64 with numbers from 0 on, and not of node 2 of 3 with numbers from 0 on",
     b"book 1 2 3 7\nask 1 r X\n": "is of node 2 of 3 with numbers from 7 on, and not of node 2 of 3 with numbers from 0 on",
 }
-# Whole books of the node, and one that was cut off in its first line.
-OWN = [b"book 1 2 3 0\n", b"book 1 2 3 0\nask 1 r X\n", b"book 1 2", b""]
+# Whole books of the node, in either version, and two that were cut off in their first lines.
+OWN = [b"book 2 2 3 0\n", b"book 2 2 3 0\nask 1 r X\n", b"book 2 2", b"book 1 2 3 0\n", b"book 1 2 3 0\nask 1 r X\n", b"book 1 2", b""]
 
 
 class FirstLines(unittest.TestCase):

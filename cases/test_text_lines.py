@@ -10,7 +10,7 @@ TORN = [
 
 # What is no word, or the wrong one.
 WORDS = [
-    b"End\n", b"en\n", b"ends\n", b"end \n", b" end\n", b"end\r\n", b"end\x00\n", b"\xffend\n", b"trace 3 2 0\n",
+    b"End\n", b"en\n", b"ends\n", b"end \n", b" end\n", b"end\r\n", b"end\x00\n", b"\xffend\n", b"trace 4 2 0\n",
     b"trace 0 2 0\n", b"trace 12 2 0\n", b"trace 01 2 0\n", b"trace\t1 2 0\n", b"trace 2 0\n", b"asks 1 1 r X\n",
     b"deliver 1 2 r X 1\n", b"deliver answer 1 2 r X 1\n", b"drop reply 2 1 r 1\n", b"reply 2 1 r 1\n", b"repeat 1 2 r X 1\n",
     b"repeats request 1 2 r X 1\n", b"repeat answer 1 2 r X 1\n",

@@ -7,7 +7,7 @@ import subprocess
 
 from failing import fail
 
-FIRST = re.compile(r"book 1 ([1-9][0-9]?) ([1-9][0-9]?) (0|[1-9][0-9]{0,19})\n")
+FIRST = re.compile(r"book [12] ([1-9][0-9]?) ([1-9][0-9]?) (0|[1-9][0-9]{0,19})\n")
 
 
 def node_of(line):
@@ -23,7 +23,7 @@ class Book:
     def __init__(self, options):
         self.path, self.fsync = options.book, options.fsync
         self.added = []  # lines that are not in the file yet
-        first = f"book 1 {options.node} {options.nodes} {options.start}"
+        first = f"book 2 {options.node} {options.nodes} {options.start}"
         try:
             self.file = open(self.path, "ab")
             fcntl.flock(self.file, fcntl.LOCK_EX | fcntl.LOCK_NB)
@@ -46,7 +46,14 @@ class Book:
         """Ends the host before it changes a file that is no book of this node. A first line may have been cut off."""
         with open(self.path, encoding="latin-1", newline="\n") as file:
             found = file.readline(256)
-        if first.startswith(found):
+        older = first.replace("book 2 ", "book 1 ", 1)
+        if first.startswith(found) or older != found and older.startswith(found):
+            return
+        if found == older:
+            # A book of version 1, without cancels, is one of version 2 from now on: only this digit differs.
+            with open(self.path, "r+b") as file:
+                file.seek(len("book "))
+                file.write(b"2")
             return
         named = node_of(found)
         if not named:

@@ -5,11 +5,13 @@ A host runs a node of the cluster, the program `ra node`, and does what a node c
 frames to the other machines, keeps its book in a file, and lets the clients of its machine lock names. A client connects
 to 127.0.0.1, at port 7100 plus the number of the node, and sends lines:
 
-    lock NAME MODE      the answer is `granted NUMBER`, as soon as the client holds the name
-    unlock NAME         the answer is `unlocked`
+    lock NAME MODE                  the answer is `granted NUMBER`, as soon as the client holds the name
+    lock NAME MODE within SECONDS   the same, or `timeout` after so long, 0 to 1000000 such as 2.5: then it holds nothing
+    unlock NAME                     the answer is `unlocked`
 
 If the node refuses a line, the answer is `refused WORD`. A client holds a name only while its connection lasts. When the
-connection ends, the host releases what the client holds, and what it waits for as soon as that is granted.
+connection ends, the host releases what the client holds, and cancels what it waits for. It notices the end also if the
+client has sent more lines ahead.
 
 A host may be killed at any moment, and be started again with its book. Three rules make that safe:
 
@@ -31,6 +33,7 @@ It needs Python 3.8 or later and nothing more. `--carrier mqtt` also needs a bro
 """
 import asyncio
 import collections
+import contextlib
 import re
 import signal
 import sys
@@ -41,6 +44,10 @@ from failing import fail
 from options import parse
 
 DELAY = 0.05  # seconds until a frame is acknowledged
+ASKS = 1000  # asks after which the node forgets the names that nobody uses
+AHEAD = 1 << 20  # bytes of lines that a client can send before they are answered
+SECONDS = re.compile(r"[0-9]{1,7}(\.[0-9]+)?")
+LONGEST = 1_000_000  # seconds that a client can wait within
 MESSAGE = re.compile(r"([A-Za-z0-9_.-]+) ([0-9]{1,2}) ([0-9]{1,2}) (frame|ack|hello) ([0-9]{1,19})(?: ([0-9a-f]{1,112}))?\n?")
 
 
@@ -54,6 +61,39 @@ class Peer:
         self.unacknowledged = collections.deque()  # the other ones, in order
 
 
+class Lines:
+    """The lines of a client. They are read as they come, so that the end of its connection is noticed while it waits."""
+
+    def __init__(self, reader):
+        self.ahead, self.size = collections.deque(), 0
+        self.came = asyncio.Event()  # set when a line or the end has come
+        self.ended = asyncio.ensure_future(self.read(reader))
+
+    async def read(self, reader):
+        """Reads until the connection ends. A last line that was cut off is none."""
+        # It ends as well if it breaks, if a line is far too long, or if too many lines wait.
+        with contextlib.suppress(OSError, ValueError):
+            while self.size <= AHEAD:
+                line = await reader.readline()
+                if not line.endswith(b"\n"):
+                    break
+                self.ahead.append(line)
+                self.size += len(line)
+                self.came.set()
+        self.came.set()
+
+    async def next(self):
+        """Returns the words of the next line, or `None` after the last one."""
+        while not self.ahead:
+            if self.ended.done():
+                return None
+            self.came.clear()
+            await self.came.wait()
+        line = self.ahead.popleft()
+        self.size -= len(line)
+        return line.decode("latin-1").split()
+
+
 class Host:
     def __init__(self, options):
         self.options = options
@@ -62,6 +102,7 @@ class Host:
         self.is_back = False  # whether the node has come back to where it was
         self.peers = {number: Peer() for number in range(1, options.nodes + 1) if number != options.node}
         self.clients = 0  # the greatest number of a client
+        self.asks = 0  # those since the host started
         self.waiting = {}  # the future of each client and name that waits
         self.outbox = []  # calls that send something
         self.owed = set()  # the peers that an acknowledgement is due to
@@ -198,6 +239,11 @@ class Host:
         if answer[-1][0] == "refused":
             return answer[-1][1]
         self.book.add(line)
+        if line.startswith("ask "):
+            self.asks += 1
+            if self.asks % ASKS == 0:
+                # If there is no memory for it now, the names go the next time.
+                asyncio.get_running_loop().call_soon(self.step, "forget")
         for words in answer:
             if words[0] == "send":
                 self.send(int(words[1]), words[2])
@@ -217,23 +263,37 @@ class Host:
         if self.step(f"release {client} {name}") == "Memory":
             asyncio.get_running_loop().call_later(1, self.give_back, client, name)
 
+    def give_up(self, client, name):
+        """Cancels what a client that is gone waited for. If it was let in meanwhile, `let_in` has given the name back."""
+        if self.step(f"cancel {client} {name}") == "Memory":
+            asyncio.get_running_loop().call_later(1, self.give_up, client, name)
+
     def replay(self):
-        """Brings the node back to where it was. Clients that held a name have lost it with their connections."""
-        inside = set()
-        for place, answer in enumerate(self.node.replay(self.book.lines()), 1):
+        """Brings the node back to where it was. Clients have lost with their connections what they held or waited for."""
+        inside, waiting = set(), {}
+        for place, (line, answer) in enumerate(zip(self.book.lines(), self.node.replay(self.book.lines())), 1):
             if answer[-1][0] == "refused":
                 fail(f"the node refuses line {place} of the book {self.options.book}: {answer[-1][1]}")
+            asked = line.split(" ")
+            if asked[0] == "ask":
+                waiting[int(asked[1]), asked[2]] = place
+            elif asked[0] == "cancel":
+                del waiting[int(asked[1]), asked[2]]
             for words in answer:
                 if words[0] == "send":
                     self.send(int(words[1]), words[2])
                 elif words[0] == "enter":
                     inside.add((int(words[2]), words[3]))
+                    del waiting[int(words[2]), words[3]]
                 elif words[0] == "leave":
                     inside.remove((int(words[2]), words[3]))
         self.is_back = True
         for number, peer in self.peers.items():
             self.check(number, peer.has)
             self.reached(number)
+        # The last ones first, so that none of those that are gone asks because of another one.
+        for client, name in reversed(list(waiting)):
+            self.give_up(client, name)
         for client, name in inside:
             self.give_back(client, name)
 
@@ -242,27 +302,24 @@ class Host:
     async def serve(self, reader, writer):
         """Answers the lines of one client in turn. While it waits for a name, its next lines wait too."""
         self.clients += 1
-        client, held = self.clients, set()
-        try:
-            line = await reader.readline()
-            # A last line that was cut off is none.
-            while line.endswith(b"\n"):
-                # The next line is awaited meanwhile, so that the end of the connection is noticed.
-                coming = asyncio.ensure_future(reader.readline())
-                answer = await self.answer(client, held, line.decode("latin-1").split(), coming)
+        client, held, lines = self.clients, set(), Lines(reader)
+        with contextlib.suppress(OSError):  # The connection broke, or the client is gone.
+            while (words := await lines.next()) is not None:
+                answer = await self.answer(client, held, words, lines.ended)
                 self.later(writer.write, f"{answer}\n".encode())
-                line = await coming
                 # A client that does not read its answers gets no more.
                 await writer.drain()
-        except (OSError, ValueError):
-            pass  # The connection broke, or a line was far too long.
+        lines.ended.cancel()
         for name in held:
             self.give_back(client, name)
         self.later(writer.close)
 
-    async def answer(self, client, held, words, coming):
+    async def answer(self, client, held, words, ended):
         if len(words) == 3 and words[0] == "lock":
-            return await self.lock(client, held, words[1], words[2], coming)
+            return await self.lock(client, held, words[1], words[2], None, ended)
+        if len(words) == 5 and words[0] == "lock" and words[3] == "within" and SECONDS.fullmatch(words[4]):
+            seconds = float(words[4])
+            return await self.lock(client, held, words[1], words[2], seconds, ended) if seconds <= LONGEST else "refused Line"
         if len(words) == 2 and words[0] == "unlock":
             said = self.step(f"release {client} {words[1]}")
             if said == "ok":
@@ -271,20 +328,26 @@ class Host:
             return f"refused {said}"
         return "refused Line"
 
-    async def lock(self, client, held, name, mode, coming):
+    async def lock(self, client, held, name, mode, seconds, ended):
+        """Locks a name, for so many seconds at most if any are given, and until the connection has ended."""
         granted = self.waiting[client, name] = asyncio.get_running_loop().create_future()
         said = self.step(f"ask {client} {name} {mode}")
         if said != "ok":
             del self.waiting[client, name]
             return f"refused {said}"
-        await asyncio.wait([granted, coming], return_when=asyncio.FIRST_COMPLETED)
-        if not granted.done() and (coming.exception() or not coming.result().endswith(b"\n")):
-            # The client is gone. Its request cannot be withdrawn, so the name is given back once it is granted.
-            del self.waiting[client, name]
-            raise ConnectionError
-        number = await granted
+        if not granted.done():
+            await asyncio.wait([granted, ended], timeout=seconds, return_when=asyncio.FIRST_COMPLETED)
+        while not granted.done():
+            # Nothing else runs since that look, so a name that is cancelled now was not granted.
+            if self.step(f"cancel {client} {name}") != "Memory":
+                del self.waiting[client, name]
+                if ended.done():
+                    raise ConnectionError
+                return "timeout"
+            # The node lacks memory for it, so the client waits on, and may be let in.
+            await asyncio.wait([granted], timeout=1)
         held.add(name)
-        return f"granted {number}"
+        return f"granted {granted.result()}"
 
     # From start to end
 

@@ -1,5 +1,5 @@
-//! Tests of what `ra_cli` offers to other programs and `ra` does not use or print, since `ra` calls `do_alone` in place of
-//! `serve` and `answer`. All other tests of `ra_cli` are in `cases/`.
+//! Tests of what `ra_cli` offers to other programs and `ra` does not use or print, since `ra` calls `do_alone` in place
+//! of `serve` and `answer`. All other tests of `ra_cli` are in `cases/`.
 #![tactic(auto)]
 
 #[cfg(test)]

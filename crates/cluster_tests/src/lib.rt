@@ -1,5 +1,6 @@
-//! Tests of `ra_site` and `ra_cluster` through their public calls: sites, clients that wait at a site, whole clusters, and
-//! scripts that threads run. Books by themselves and audits are tested in `history_tests`, so that both are proved side by side.
+//! Tests of `ra_site` and `ra_cluster` through their public calls: sites, clients that wait at a site, whole clusters,
+//! and scripts that threads run. Books by themselves and audits are tested in `history_tests`, so that both are proved
+//! side by side.
 #![tactic(auto)]
 
 #[cfg(test)]

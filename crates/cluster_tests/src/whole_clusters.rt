@@ -4,6 +4,7 @@ pub mod cluster_calls;
 pub mod cluster_clients;
 pub mod cluster_ends;
 pub mod cluster_values;
+pub mod giving_up;
 pub mod owned_cluster;
 pub mod plays;
 pub mod sleeping_clients;

@@ -1,5 +1,6 @@
-//! A service that goes on for long. Clients lock and unlock names, and every so often one of them audits the cluster, so
-//! that its memory does not grow with the number of locks.
+//! A service that goes on for long. Clients lock and unlock names, and every so often one of them audits the cluster,
+//! so that its memory does not grow with the number of locks. After some rounds of the audit each node forgets the
+//! names that nobody uses, so that its memory does not grow with the names that were ever locked either.
 //!
 //! The arguments are how many locks to give in all, how many nodes and how many clients.
 #![tactic(auto)]
@@ -16,6 +17,9 @@ use std::{env, thread};
 
 /// After about how many events of all nodes together a client audits the cluster.
 const EVENTS_A_ROUND: u64 = 6_000;
+
+/// After how many rounds of the audit each node forgets names.
+const ROUNDS_A_FORGETTING: u64 = 100;
 
 /// The names that the clients lock.
 const NAMES: [&[u8]; 4] = [b"disk", b"index", b"queue", b"table"];
@@ -116,10 +120,26 @@ fn audit<R: Wait>(rt: &R, alloc: Global, service: &Service<'_>) -> Result<(), Fa
         counts,
         ..
     } = &mut *audit;
-    match auditor.audit(rt, alloc, service.cluster, counts) {
-        Ok(()) => Ok(()),
-        Err(refused) => Err(Failure::Round(refused)),
+    if let Err(refused) = auditor.audit(rt, alloc, service.cluster, counts) {
+        return Err(Failure::Round(refused));
     }
+    if audit.rounds.checked_rem(ROUNDS_A_FORGETTING) == Some(0) {
+        forget(rt, alloc, service.cluster)?;
+    }
+    Ok(())
+}
+
+/// Has each node forget the names that nobody uses.
+fn forget<R: Wait>(rt: &R, alloc: Global, cluster: &Cluster<OpenGate>) -> Result<(), Failure> {
+    for number in 1..=cluster.nodes() {
+        let Some(node) = NodeId::new(number) else {
+            return Err(Failure::Plan);
+        };
+        if let Err(refused) = cluster.forget(rt, alloc, node) {
+            return Err(Failure::Call(refused));
+        }
+    }
+    Ok(())
 }
 
 /// Returns how many locks a client gets.
@@ -168,8 +188,8 @@ fn lock_once<R: Wait>(
     }
 }
 
-/// Returns after how many locks of all clients together one of them audits. Each lock makes two events for each node: an ask and a
-/// leave, and a REQUEST and a REPLY for each other node.
+/// Returns after how many locks of all clients together one of them audits. Each lock makes two events for each node:
+/// an ask and a leave, and a REQUEST and a REPLY for each other node.
 fn locks_a_round(plan: Plan) -> u64 {
     match EVENTS_A_ROUND.checked_div(u64::from(plan.nodes).saturating_mul(2)) {
         Some(locks) => locks.max(1),
@@ -186,7 +206,8 @@ fn ends_a_round(service: &Service<'_>) -> bool {
     given.checked_rem(locks_a_round(service.plan)) == Some(0)
 }
 
-/// A client locks and unlocks its name at its node, as often as is its share. It audits whenever a round is due after its lock.
+/// A client locks and unlocks its name at its node, as often as is its share. It audits whenever a round is due after
+/// its lock.
 fn lock_and_unlock<R: Wait>(
     rt: &R,
     alloc: Global,

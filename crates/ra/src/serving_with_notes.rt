@@ -27,7 +27,8 @@ pub fn refuse_arguments_with_note<W: Write, N: Write>(
     fault: CommandFault,
     notes: &mut N,
 ) -> u8
-    ensures { Writes (refused_line (command_word fault)) 2 (W.contents writer.old.inner) (W.contents writer.new.inner) result }
+    ensures { Writes (refused_line (command_word fault)) 2 (W.contents writer.old.inner)
+        (W.contents writer.new.inner) result }
 {
     let status = refuse_arguments(writer, fault);
     write_arguments_note(fault, notes);
@@ -38,11 +39,12 @@ pub fn refuse_arguments_with_note<W: Write, N: Write>(
 /// Does as [`ra_cli::serve`], and then writes lines for a person to `notes`:
 ///
 /// - If something was refused, a text is no trace, a log is no mark log, books do not settle, or a run ended with
-///   something left to do, a line says what is wrong, where in what was read, and what would be right. Of a run that was
-///   shrunk, it is about the shorter one, and another line says by how much.
-/// - If a text is a trace or a mark log, a line says what is left at its end, if anything is, or that a log has no mark.
-/// - There is a line for each option that has no effect, if the policy `listed` has no choices, if a finished run leaves
-///   names locked, and for the seed of a run that was found.
+///   something left to do, a line says what is wrong, where in what was read, and what would be right. Of a run that
+///   was shrunk, it is about the shorter one, and another line says by how much.
+/// - If a text is a trace or a mark log, a line says what is left at its end, if anything is, or that a log has no
+///   mark.
+/// - There is a line for each option that has no effect, if the policy `listed` has no choices, if a finished run
+///   leaves names locked, and for the seed of a run that was found.
 /// - There is a line if `writer` failed, unless that is a pipe that is no longer read.
 ///
 /// If the input is at a terminal, the first line says what the command waits for. While many seeds take long, it writes
@@ -60,7 +62,9 @@ pub fn serve_with_notes<T: Threads + Wait + Sync, R: BufRead, W: Write, N: Write
     notes: &mut N,
 ) -> u8
     // What is promised of the status, the reader and the writer is the same, whatever becomes of the note.
-    ensures { Serves (helps_of ANSWER_HELP.now SIM_HELP.now CLUSTER_HELP.now CHECK_HELP.now DRAW_HELP.now NODE_HELP.now SETTLE_HELP.now SUMMARY_HELP.now STATUS_HELP.now)
+    ensures { Serves
+        (helps_of ANSWER_HELP.now SIM_HELP.now CLUSTER_HELP.now CHECK_HELP.now DRAW_HELP.now NODE_HELP.now SETTLE_HELP.now
+        SUMMARY_HELP.now STATUS_HELP.now)
         (map string_bytes arguments.now) (R.remaining reader.old.inner) (R.remaining reader.new.inner)
         (W.contents writer.old.inner) (W.contents writer.new.inner) (reader.new ≡ reader.old) result }
 {

@@ -55,6 +55,7 @@ pub record Helps : Type 0 where
   pub summary : Text
   pub program : Text
 
+-- A clause names each text by itself, since it can name a constant text and no constant that holds several.
 abbrev pub helps_of : (answer sim cluster check draw node settle summary program : Text) → Helps
 helps_of answer sim cluster check draw node settle summary program = record {
   answer = answer;

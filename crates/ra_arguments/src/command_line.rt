@@ -195,8 +195,8 @@ fn seeds_of(text: &str) -> Result<SeedRange, UsageCause>
 ///
 /// # Errors
 ///
-/// The last of the options `--as-choices`, `--shrink` and `--state` that is given, if the flags ask for two things, or for
-/// choices when some may be repeats, for which there is no word.
+/// The last of the options `--as-choices`, `--shrink` and `--state` that is given, if the flags ask for two things, or
+/// for choices when some may be repeats, for which there is no word.
 fn flagged_format(
     may_repeat: bool,
     traces: bool,
@@ -256,7 +256,8 @@ fn ending_of(sim: &ArgMatches) -> Option<Ending>
     }
 }
 
-/// Returns the faults of a policy of chance, if it has any, or `None` if the policy draws nothing. It does not allocate.
+/// Returns the faults of a policy of chance, if it has any, or `None` if the policy draws nothing. It does not
+/// allocate.
 fn chance_of(policy: PolicyName) -> Option<Option<Faults>>
     ensures { result ≡ chance_by policy }
 {
@@ -267,8 +268,8 @@ fn chance_of(policy: PolicyName) -> Option<Option<Faults>>
     }
 }
 
-/// Returns what is looked for among the runs of many seeds, if an end is given: the trace of such a run is printed, unless
-/// choices are asked for. It does not allocate.
+/// Returns what is looked for among the runs of many seeds, if an end is given: the trace of such a run is printed,
+/// unless choices are asked for. It does not allocate.
 ///
 /// # Errors
 ///
@@ -470,7 +471,8 @@ fn asks_for_help(arguments: &[String]) -> bool
     false
 }
 
-/// Returns the value that is wrong for this cause, or `None` if the cause is not the value of one option. It does not allocate.
+/// Returns the value that is wrong for this cause, or `None` if the cause is not the value of one option. It does not
+/// allocate.
 fn wrong_value<'a>(matches: &ArgMatches<'a>, cause: UsageCause) -> Option<&'a str> {
     let option = match cause {
         UsageCause::Node => "node",
@@ -488,8 +490,11 @@ fn wrong_value<'a>(matches: &ArgMatches<'a>, cause: UsageCause) -> Option<&'a st
 ///
 /// `Usage`: they ask for nothing, for this cause. `Memory`: memory ran out.
 pub fn parse<'a>(alloc: Global, arguments: &'a [String]) -> Result<Task<'a>, ArgumentsFault<'a>>
-    ensures task { MatchResult result (AsksForTask (map string_bytes arguments.now)) (IsArgumentsFault (map string_bytes arguments.now)) }
-    ensures help { IfOk result (ShowsHelp (helps_of ANSWER_HELP.now SIM_HELP.now CLUSTER_HELP.now CHECK_HELP.now DRAW_HELP.now NODE_HELP.now SETTLE_HELP.now SUMMARY_HELP.now STATUS_HELP.now) (map string_bytes arguments.now)) }
+    ensures task { MatchResult result (AsksForTask (map string_bytes arguments.now))
+        (IsArgumentsFault (map string_bytes arguments.now)) }
+    ensures help { IfOk result (ShowsHelp
+        (helps_of ANSWER_HELP.now SIM_HELP.now CLUSTER_HELP.now CHECK_HELP.now DRAW_HELP.now NODE_HELP.now SETTLE_HELP.now
+        SUMMARY_HELP.now STATUS_HELP.now) (map string_bytes arguments.now)) }
 {
     let Ok(parsed) = matches_of(alloc, arguments) else {
         return Err(ArgumentsFault::Memory);
@@ -523,7 +528,9 @@ fn is_help_kind(kind: ErrorKind) -> bool
 ///
 /// `AllocError`: there was no memory for it.
 fn help_text(alloc: Global, arguments: &[String], error: &ParseError) -> Result<String, AllocError>
-    ensures { IfOk result (λ text. IsShown (helps_of ANSWER_HELP.now SIM_HELP.now CLUSTER_HELP.now CHECK_HELP.now DRAW_HELP.now NODE_HELP.now SETTLE_HELP.now SUMMARY_HELP.now STATUS_HELP.now) (map string_bytes arguments.now) (kind_of error.now) (string_bytes text)) }
+    ensures { IfOk result (λ text. IsShown
+        (helps_of ANSWER_HELP.now SIM_HELP.now CLUSTER_HELP.now CHECK_HELP.now DRAW_HELP.now NODE_HELP.now SETTLE_HELP.now
+        SUMMARY_HELP.now STATUS_HELP.now) (map string_bytes arguments.now) (kind_of error.now) (string_bytes text)) }
 {
     let mut text = format!(in alloc; "{error}")?;
     if let ErrorKind::DisplayHelp = error.kind() {
@@ -545,8 +552,11 @@ fn help_of<'a>(
     error: &ParseError,
 ) -> Result<Task<'a>, CommandFault>
     requires { HasKind (refusals (map string_bytes arguments.now)) error.now }
-    ensures task { MatchResult result (AsksForTask (map string_bytes arguments.now)) (IsRefusedBy (map string_bytes arguments.now) error.now) }
-    ensures help { IfOk result (ShowsHelp (helps_of ANSWER_HELP.now SIM_HELP.now CLUSTER_HELP.now CHECK_HELP.now DRAW_HELP.now NODE_HELP.now SETTLE_HELP.now SUMMARY_HELP.now STATUS_HELP.now) (map string_bytes arguments.now)) }
+    ensures task { MatchResult result (AsksForTask (map string_bytes arguments.now))
+        (IsRefusedBy (map string_bytes arguments.now) error.now) }
+    ensures help { IfOk result (ShowsHelp
+        (helps_of ANSWER_HELP.now SIM_HELP.now CLUSTER_HELP.now CHECK_HELP.now DRAW_HELP.now NODE_HELP.now SETTLE_HELP.now
+        SUMMARY_HELP.now STATUS_HELP.now) (map string_bytes arguments.now)) }
 {
     if is_help_kind(error.kind()) {
         if !asks_for_help(arguments) {

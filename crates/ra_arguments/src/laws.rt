@@ -5,8 +5,8 @@ ghost use Rattle.ra_arguments.specs.declared.command.Command.{Command};
 ghost use Rattle.ra_arguments.specs.declared.command_line.Task.{Task};
 ghost use Rattle.ra_arguments.specs.declared.command_line.search.SurveyTask.{SurveyTask};
 
-/// Arguments ask for one command, unless memory runs out: with the same parameters, wherever the text of choices lies and
-/// whatever a text of help says.
+/// Arguments ask for one command, unless memory runs out: with the same parameters, wherever the text of choices lies
+/// and whatever a text of help says.
 pub fn arguments_ask_for_one_command()
     ensures { (arguments : List (List ℕ)) (a b : Command) → Asks arguments a → Asks arguments b → AreSameCommand a b }
 {}

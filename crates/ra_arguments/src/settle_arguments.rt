@@ -23,7 +23,8 @@ pub struct SettleTask {
 /// Returns what the arguments after `settle` ask for, or `None` if they are not its options, each at most once. It does
 /// not allocate.
 fn options_of(options: &[String]) -> Option<SettleTask>
-    ensures { MatchOption result (AreNoOptions (map string_bytes options.now)) (AreOptionsFor (map string_bytes options.now)) }
+    ensures { MatchOption result (AreNoOptions (map string_bytes options.now))
+        (AreOptionsFor (map string_bytes options.now)) }
 {
     match options {
         [] => Some(SettleTask {

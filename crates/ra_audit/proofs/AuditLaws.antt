@@ -29,7 +29,7 @@ runs_meet_the_theorem =
     (λ n start moves table e count run quiet. is_blocked laws_below n start moves count run quiet (same_entries (marks_of moves)) table e)
     (λ n start moves table e count run quiet table_run may.
     blocked_may_not_enter table e (is_blocked laws_below n start moves count run quiet (same_entries (marks_of moves)) table e table_run may.waits) may)
-    (λ n start moves table count run quiet unrepeated. meets_count laws_below n start moves count run quiet (same_entries (marks_of moves)) unrepeated table)
+    (λ n start moves table count run quiet unrepeated unwithdrawn. meets_count laws_below n start moves count run quiet (same_entries (marks_of moves)) unrepeated unwithdrawn table)
     (holders_do_not_conflict conflict_flips) (grants_by_stamp conflict_flips one_is_earlier) runs_are_fair
 
 -- messages of runs without repeats are all different, come from the nodes that sent them, and are under way until they are taken

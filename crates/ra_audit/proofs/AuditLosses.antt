@@ -15,7 +15,7 @@ use Rattle.ra_frame.specs.declared.frame.Frame.{Frame}
 use Rattle.ra_world.specs.declared.error.StepError.{StepError}
 use Rattle.ra_world.specs.declared.error.StepError.TheVariants as refusal
 use Rattle.ra_world.specs.declared.step.Step.{Step}
-use Rattle.ra_world.specs.declared.step.Step.TheVariants.{Ask, Leave, Deliver, Lose, Repeat}
+use Rattle.ra_world.specs.declared.step.Step.TheVariants.{Ask, Leave, Cancel, Forget, Deliver, Lose, Repeat}
 use Rattle.ra_world.specs.Traffic.{Move, IsUnderWay, lost_in, lost_by, repeated_by}
 use Rattle.ra_world.specs.Run.{IsRun, happened_at}
 use Rattle.ra_world.specs.World.{WorldState, HasCause, with_move}
@@ -72,6 +72,8 @@ module _ (w : WorldState) (message : Message) (sends : List Message) (marks : Li
 lost_in_one : (step : Step) → length (lost_in step) ≤ 1
 lost_in_one (Ask node client name mode) = omega arith
 lost_in_one (Leave node client name) = omega arith
+lost_in_one (Cancel node client name) = omega arith
+lost_in_one (Forget node) = omega arith
 lost_in_one (Deliver message) = omega arith
 lost_in_one (Lose message) = omega arith
 lost_in_one (Repeat message) = omega arith

@@ -10,7 +10,7 @@ use Rattle.std.proofs.lemmas.List.Sorted.{IsPermutation-sym, IsPermutation-keeps
 use Rattle.std.proofs.lemmas.Option.{same_Some, none-some, slice_get_read}
 use Rattle.ra_stamp.specs.declared.entry.Entry.{Entry}
 use Rattle.ra_stamp.specs.declared.entry.Mark.{Mark}
-use Rattle.ra_stamp.specs.declared.entry.Mark.TheVariants.{Requested, Entered, Left}
+use Rattle.ra_stamp.specs.declared.entry.Mark.TheVariants.{Requested, Entered, Left, Withdrawn}
 use Rattle.ra_book.specs.declared.book.grant.Grant.{Grant}
 use Rattle.ra_table.specs.Table.{LockTable, empty_table, TableRun}
 use Rattle.ra_table.specs.Laws.{IsAt}
@@ -88,6 +88,7 @@ entered_is_mark : (marks : List Mark) (e : Entry) → Contains (entered_in marks
 entered_is_mark [] e at = absurd (omega (arith, at.1))
 entered_is_mark (Requested f ∷ marks) e at = one_later (Requested f) marks (Entered e) (entered_is_mark marks e at)
 entered_is_mark (Left f ∷ marks) e at = one_later (Left f) marks (Entered e) (entered_is_mark marks e at)
+entered_is_mark (Withdrawn f ∷ marks) e at = one_later (Withdrawn f) marks (Entered e) (entered_is_mark marks e at)
 entered_is_mark (Entered f ∷ marks) e (zero, low, is) = (0, omega arith, ap (λ (x : Entry). Entered x) is)
 entered_is_mark (Entered f ∷ marks) e (suc k, low, is) = one_later (Entered f) marks (Entered e) (entered_is_mark marks e (k, omega (arith, low), is))
 
@@ -99,6 +100,7 @@ all_apart : (marks : List Mark) → EnterOnce marks → Apart (λ (a b : Entry).
 all_apart [] once = tt
 all_apart (Requested e ∷ marks) once = all_apart marks (later (Requested e) marks once)
 all_apart (Left e ∷ marks) once = all_apart marks (later (Left e) marks once)
+all_apart (Withdrawn e ∷ marks) once = all_apart marks (later (Withdrawn e) marks once)
 all_apart (Entered e ∷ marks) once = (
   All-from_contains (λ (x : Entry). e ≢ x) (entered_in marks)
       (λ x there same.

@@ -10,7 +10,7 @@ use Rattle.ra_stamp.specs.Message.{from_of}
 use Rattle.ra_frame.specs.declared.frame.Frame.{Frame}
 use Rattle.ra_audit.specs.declared.audit_error.AuditFault.{AuditFault}
 use Rattle.ra_book.specs.declared.book.event.BookKind.{BookKind}
-use Rattle.ra_book.specs.declared.book.event.BookKind.TheVariants.{Asked, Gave, Got}
+use Rattle.ra_book.specs.declared.book.event.BookKind.TheVariants.{Asked, Gave, Cancelled, Forgot, Got}
 use Rattle.ra_book.specs.declared.book.event.BookEvent.{BookEvent}
 use Rattle.ra_book.specs.History.{clock_of}
 use Rattle.ra_audit.specs.Audit.{ProgressState, AreNextAt, IsDue, IsReady, NoneIsReady, NoneWaits, IsNeverSent, IsLeastLeft, taken_of}
@@ -105,6 +105,8 @@ module _ (nodes : List ProgressState) (n : ℕ) (numbers : map (λ p. p.node) no
       of : (kind : BookKind) → fault.event.kind ≡ kind → (IsDue nodes kind → ⊥) → ((frame : Frame) → fault.event.kind ≡ Got frame → frame.clock < fault.event.clock) → IsNeverSent nodes fault
       of (Asked client name mode) is not_due less = absurd (not_due tt)
       of (Gave client name) is not_due less = absurd (not_due tt)
+      of (Cancelled client name) is not_due less = absurd (not_due tt)
+      of Forgot is not_due less = absurd (not_due tt)
       of (Got frame) is not_due less = record {
         at_node = is_least.at_node;
         frame = frame;

@@ -8,7 +8,7 @@ use Rattle.std.proofs.lemmas.List.Sorted.{IsPermutation-refl, IsPermutation-sym,
 use Rattle.std.proofs.lemmas.Bool.{true≢false}
 use Rattle.ra_stamp.specs.declared.entry.Entry.{Entry}
 use Rattle.ra_stamp.specs.declared.entry.Mark.{Mark}
-use Rattle.ra_stamp.specs.declared.entry.Mark.TheVariants.{Requested, Entered, Left}
+use Rattle.ra_stamp.specs.declared.entry.Mark.TheVariants.{Requested, Entered, Left, Withdrawn}
 use Rattle.ra_book.specs.declared.book.grant.Grant.{Grant}
 use Rattle.ra_audit.specs.Matching.{MatcherState, IsMatcher, IsUnmatched, TakesGrant, TakesEntered, entered_in, entries_of}
 
@@ -50,6 +50,7 @@ entered_in-append [] more = refl
 entered_in-append (Requested e ∷ marks) more = entered_in-append marks more
 entered_in-append (Entered e ∷ marks) more = ap (λ (es : List Entry). e ∷ es) (entered_in-append marks more)
 entered_in-append (Left e ∷ marks) more = entered_in-append marks more
+entered_in-append (Withdrawn e ∷ marks) more = entered_in-append marks more
 
 abbrev pub entries_more : (grants : List Grant) (g : Grant) → entries_of (grants ++ g ∷ []) ≡ entries_of grants ++ g.entry ∷ []
 entries_more grants g = map-append (λ (x : Grant). x.entry) grants (g ∷ [])

@@ -5,7 +5,7 @@ use Rattle.std.specs.Prelude.{All, slice_get}
 use Rattle.std.proofs.lemmas.List.Elements.{All-nil, All-cons, All-append, All-weaker}
 use Rattle.ra_frame.specs.declared.frame.Frame.{Frame}
 use Rattle.ra_book.specs.declared.book.event.BookKind.{BookKind}
-use Rattle.ra_book.specs.declared.book.event.BookKind.TheVariants.{Asked, Gave, Got}
+use Rattle.ra_book.specs.declared.book.event.BookKind.TheVariants.{Asked, Gave, Cancelled, Forgot, Got}
 use Rattle.ra_book.specs.declared.book.event.BookEvent.{BookEvent}
 use Rattle.ra_audit.specs.declared.auditor.node_progress.NodeProgress.TheInside.{Inside}
 use Rattle.ra_book.specs.History.{clock_from, clock_of, clock_after}
@@ -79,6 +79,8 @@ kept_taken old new events k next waiting settled node latest clock =
 after_is_later : (clock : ℕ) (kind : BookKind) → clock < clock_after clock kind
 after_is_later clock (Asked client name mode) = omega arith
 after_is_later clock (Gave client name) = omega arith
+after_is_later clock (Cancelled client name) = omega arith
+after_is_later clock Forgot = omega arith
 after_is_later clock (Got frame) = omega arith
 
 later : (node clock : ℕ) (e : BookEvent) → IsNextAt node clock e → clock < e.clock

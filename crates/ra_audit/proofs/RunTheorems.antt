@@ -10,7 +10,7 @@ use Rattle.ra_table.specs.Table.{LockTable, TableRun, MayEnter, Excludes}
 use Rattle.ra_table.specs.Laws.{IsConflictFree, IsAt}
 use Rattle.ra_world.specs.Traffic.{Move, repeated_by}
 use Rattle.ra_world.specs.Run.{IsRun, marks_of}
-use Rattle.ra_world.specs.Quiet.{IsQuiet, IsBlocked, MeetsMessageCount}
+use Rattle.ra_world.specs.Quiet.{IsQuiet, IsBlocked, withdrawn_in, MeetsMessageCount}
 use Rattle.ra_world.specs.Fairness.{IsFair}
 use Rattle.ra_audit.specs.Audit.{RunTheorem}
 
@@ -26,7 +26,7 @@ module _
     → IsNodeNumber n → IsRun n start moves → IsQuiet moves → TableRun (marks_of moves) table
     → MayEnter table e → ⊥)
     (count_of : (n start : ℕ) (moves : List Move) (table : LockTable)
-    → IsNodeNumber n → IsRun n start moves → IsQuiet moves → repeated_by moves ≡ [] → TableRun (marks_of moves) table
+    → IsNodeNumber n → IsRun n start moves → IsQuiet moves → repeated_by moves ≡ [] → withdrawn_in (marks_of moves) ≡ 0 → TableRun (marks_of moves) table
     → table.waiting ≡ [] → MeetsMessageCount n moves)
     (exclusive : (marks : List Mark) (table : LockTable) → TableRun marks table → IsConflictFree table.holding)
     (in_order : (marks : List Mark) (table : LockTable) (e f : Entry) (i j : ℕ) → TableRun marks table → i < j
@@ -42,6 +42,6 @@ module _
           in_order = λ e f i j. in_order (marks_of moves) some.0 e f i j some.1;
           blocked = λ table is quiet. each (IsBlocked table) table.waiting (λ e at. blocked n start moves table e count run quiet is at);
           none_may_enter = λ table is quiet. each (λ e. MayEnter table e → ⊥) table.waiting (λ e _. no_entry n start moves table e count run quiet is);
-          count = λ table is quiet unrepeated none. count_of n start moves table count run quiet unrepeated is none;
+          count = λ table is quiet unrepeated unwithdrawn none. count_of n start moves table count run quiet unrepeated unwithdrawn is none;
           fair = fair n start moves count run;
         }

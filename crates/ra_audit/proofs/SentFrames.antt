@@ -10,9 +10,9 @@ use Rattle.ra_stamp.specs.declared.entry.Mark.{Mark}
 use Rattle.ra_stamp.specs.Message.{from_of, to_of}
 use Rattle.ra_frame.specs.declared.frame.Frame.{Frame}
 use Rattle.ra_node.specs.Events.{Event, Happening}
-use Rattle.ra_node.specs.Events.Event.{Ask as AskedFor, Leave as GivenBack, Receive as Received}
+use Rattle.ra_node.specs.Events.Event.{Ask as AskedFor, Leave as GivenBack, Cancel as GivenUp, Forget as Forgotten, Receive as Received}
 use Rattle.ra_world.specs.declared.step.Step.{Step}
-use Rattle.ra_world.specs.declared.step.Step.TheVariants.{Ask, Leave, Deliver, Lose, Repeat}
+use Rattle.ra_world.specs.declared.step.Step.TheVariants.{Ask, Leave, Cancel, Forget, Deliver, Lose, Repeat}
 use Rattle.ra_world.specs.Traffic.{Move, sent_by}
 use Rattle.ra_world.specs.Run.{events_at, happened_at}
 use Rattle.ra_world.specs.Fitting.{sent_in}
@@ -76,6 +76,8 @@ one_at_most i step = at step
     at : (s : Step) → (events_at i s ≡ []) ⊎ ((event : Event) × (events_at i s ≡ event ∷ []))
     at (Ask node client name mode) = by_test (eqb node i) (AskedFor client name mode)
     at (Leave node client name) = by_test (eqb node i) (GivenBack client name)
+    at (Cancel node client name) = by_test (eqb node i) (GivenUp client name)
+    at (Forget node) = by_test (eqb node i) Forgotten
     at (Deliver message) = by_test (eqb (to_of message) i) (Received message)
     at (Lose message) = inl refl
     at (Repeat message) = inl refl

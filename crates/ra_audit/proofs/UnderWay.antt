@@ -8,7 +8,7 @@ use Rattle.ra_stamp.specs.declared.message.Message.{Message}
 use Rattle.ra_stamp.specs.declared.entry.Mark.{Mark}
 use Rattle.ra_stamp.specs.NodeId.{IsNodeNumber}
 use Rattle.ra_world.specs.declared.step.Step.{Step}
-use Rattle.ra_world.specs.declared.step.Step.TheVariants.{Ask, Leave, Deliver, Lose, Repeat}
+use Rattle.ra_world.specs.declared.step.Step.TheVariants.{Ask, Leave, Cancel, Forget, Deliver, Lose, Repeat}
 use Rattle.ra_world.specs.Traffic.{Move, TakesEach, LeavesUnderWay, IsUnderWay, sent_by, taken_in, put_in, put_by, repeated_in, repeated_by}
 use Rattle.ra_world.specs.Run.{IsRun, IsFit}
 use Rattle.ra_world.proofs.Lists.{takes_out}
@@ -121,6 +121,8 @@ taken_by_step : ((a b : Message) → (a ≡ b) ⊎ (a ≢ b)) → (n : ℕ) (mov
     → (next : List Message) × AreLeft left (taken_in step) next
 taken_by_step same_or_apart n moves (Ask node client name mode) sends marks left different among fit = (left, none_taken left)
 taken_by_step same_or_apart n moves (Leave node client name) sends marks left different among fit = (left, none_taken left)
+taken_by_step same_or_apart n moves (Cancel node client name) sends marks left different among fit = (left, none_taken left)
+taken_by_step same_or_apart n moves (Forget node) sends marks left different among fit = (left, none_taken left)
 taken_by_step same_or_apart n moves (Deliver message) sends marks left different among fit = one_taken same_or_apart left message different (among message fit)
 taken_by_step same_or_apart n moves (Lose message) sends marks left different among fit = one_taken same_or_apart left message different (among message fit.0)
 taken_by_step same_or_apart n moves (Repeat message) sends marks left different among fit = (left, none_taken left)

@@ -10,7 +10,7 @@ use Rattle.ra_table.specs.Table.{LockTable, TableRun, MayEnter}
 use Rattle.ra_table.specs.Laws.{IsConflictFree}
 use Rattle.ra_world.specs.Traffic.{Move, IsUnderWay, lost_by, repeated_by}
 use Rattle.ra_world.specs.Run.{IsRun, GoesOn, happened_at, marks_of}
-use Rattle.ra_world.specs.Quiet.{IsQuiet, IsBlocked, MeetsMessageCount}
+use Rattle.ra_world.specs.Quiet.{IsQuiet, IsBlocked, withdrawn_in, MeetsMessageCount}
 use Rattle.ra_world.specs.Fairness.{IsFair}
 use Rattle.ra_world.specs.World.{WorldState}
 use Rattle.ra_world.specs.MainTheorem.{AreGrantedInOrder}
@@ -26,7 +26,7 @@ use Rattle.ra_audit.specs.declared.audit_error.RoundError.TheVariants.{NotAudite
 use Rattle.ra_site.specs.declared.site.take_error.TakeError.{TakeError}
 use Rattle.ra_site.specs.declared.site.take_error.TakeError.TheVariants.{NoNode, OutOfTurn, NotNext, Memory}
 use Rattle.ra_book.specs.declared.book.event.BookKind.{BookKind}
-use Rattle.ra_book.specs.declared.book.event.BookKind.TheVariants.{Asked, Gave, Got}
+use Rattle.ra_book.specs.declared.book.event.BookKind.TheVariants.{Asked, Gave, Cancelled, Forgot, Got}
 use Rattle.ra_book.specs.declared.book.event.BookEvent.{BookEvent}
 use Rattle.ra_book.specs.History.{clock_after, clock_of, frames_at, node_event}
 use Rattle.ra_book.specs.Book.{BookState, HasHistory, whole_events}
@@ -73,6 +73,8 @@ pub record AuditState : Type 0 where
 abbrev pub IsForNumber : ℕ → BookKind → Type 0
 IsForNumber node (Asked client name mode) = Unit {0}
 IsForNumber node (Gave client name) = Unit {0}
+IsForNumber node (Cancelled client name) = Unit {0}
+IsForNumber node Forgot = Unit {0}
 IsForNumber node (Got frame) = to_of frame.message ≡ node
 
 -- after an event with this clock, this can be the next event of the node: it has the clock that follows, at most 2^62,
@@ -133,10 +135,12 @@ pub record AllWereSent (nodes : List ProgressState) (moves : List Move) (lost : 
 abbrev pub IsReached : List ProgressState → Frame → Type 0
 IsReached nodes frame = All (λ p. p.node ≡ from_of frame.message → frame.clock ≤ clock_of p.settled) nodes
 
--- An ask or a leave can be put at once, and a frame that came once the run has come to it.
+-- A frame that came can be put once the run has come to it, and every other event at once.
 abbrev pub IsDue : List ProgressState → BookKind → Type 0
 IsDue nodes (Asked client name mode) = Unit {0}
 IsDue nodes (Gave client name) = Unit {0}
+IsDue nodes (Cancelled client name) = Unit {0}
+IsDue nodes Forgot = Unit {0}
 IsDue nodes (Got frame) = IsReached nodes frame
 
 -- the next event of the node, after those in the run, can be put into it
@@ -303,9 +307,9 @@ pub record RunTheorem (n : ℕ) (moves : List Move) : Type 0 where
       → All (IsBlocked table) table.waiting
   pub none_may_enter : (table : LockTable) → TableRun (marks_of moves) table → IsQuiet moves
       → All (λ e. MayEnter table e → ⊥) table.waiting
-  -- and if none waits and nothing was repeated, exactly two messages were sent for each request and other node
+  -- and if none waits and nothing was repeated or withdrawn, exactly two messages were sent for each request and other node
   pub count : (table : LockTable) → TableRun (marks_of moves) table → IsQuiet moves → repeated_by moves ≡ []
-      → table.waiting ≡ [] → MeetsMessageCount n moves
+      → withdrawn_in (marks_of moves) ≡ 0 → table.waiting ≡ [] → MeetsMessageCount n moves
   -- each other node overtakes a waiting request at most once after its REQUEST has arrived there
   pub fair : IsFair n moves
 
@@ -438,6 +442,8 @@ MayComeFrom clock IsNew s =
 abbrev pub MayCome : List ProgressState → Type 0 → BookKind → Type 0
 MayCome nodes IsNew (Asked client name mode) = Unit {0}
 MayCome nodes IsNew (Gave client name) = Unit {0}
+MayCome nodes IsNew (Cancelled client name) = Unit {0}
+MayCome nodes IsNew Forgot = Unit {0}
 MayCome nodes IsNew (Got frame) = All (λ s. s.node ≡ from_of frame.message → MayComeFrom frame.clock IsNew s) nodes
 
 -- The node's next event, if one waits, may still be put into the run. A frame is new if it was taken after the nodes had

@@ -3,7 +3,7 @@ use Rattle.std.specs.Prelude.{◌≡◌, ◌≢◌, ◌⊎◌, Bool, true, false
 use Rattle.std.specs.List.Sorted.{IsPermutation}
 use Rattle.ra_stamp.specs.declared.entry.Entry.{Entry}
 use Rattle.ra_stamp.specs.declared.entry.Mark.{Mark}
-use Rattle.ra_stamp.specs.declared.entry.Mark.TheVariants.{Requested, Entered, Left}
+use Rattle.ra_stamp.specs.declared.entry.Mark.TheVariants.{Requested, Entered, Left, Withdrawn}
 use Rattle.ra_book.specs.declared.book.grant.Grant.{Grant}
 pub use Rattle.ra_book.specs.Keys.{entered_in}
 
@@ -75,6 +75,7 @@ abbrev pub TakesMark : MatcherState → Mark → MatcherState → Type 0
 TakesMark old (Requested entry) new = new ≡ record old { told = old.told ++ Requested entry ∷ [] }
 TakesMark old (Entered entry) new = TakesEntered old entry new
 TakesMark old (Left entry) new = new ≡ record old { told = old.told ++ Left entry ∷ [] }
+TakesMark old (Withdrawn entry) new = new ≡ record old { told = old.told ++ Withdrawn entry ∷ [] }
 
 -- ---- What was granted
 

@@ -81,9 +81,16 @@ impl Model for Auditor {
 
     ghost Value = { AuditState };
 
-    ghost view = { λ a. record { world = a.world; nodes = a.nodes.items; losing = a.losses.losing; lost = a.losses.lost; fault = a.fault } };
+    ghost view = { λ a. record {
+      world = a.world;
+      nodes = a.nodes.items;
+      losing = a.losses.losing;
+      lost = a.losses.lost;
+      fault = a.fault;
+    } };
 
-    ghost invariant = { λ a. IsAudited a.world a.nodes.items × (a.count ≡ a.world.count) × (a.start ≡ a.world.start) × HasLost a.world.moves a.losses.lost
+    ghost invariant = { λ a. IsAudited a.world a.nodes.items × (a.count ≡ a.world.count) × (a.start ≡ a.world.start)
+        × HasLost a.world.moves a.losses.lost
         × IsTracked a.nodes.items a.world.moves a.flights × All (WasSentIn a.nodes.items a.world.moves) a.losses.lost };
 }
 
@@ -249,11 +256,13 @@ impl Auditor {
         ensures theorem { RunTheorem self.new.world.count self.new.world.moves }
         ensures ok { OnOk result (NoneIsReady self.new.nodes) }
         ensures none_reached { OnOk result (NoneIsReached self.new.nodes self.new.losing) }
-        ensures found { (fault : audit_fault.AuditFault) → self.old.fault ≡ None → IsErrOf result (AuditError.Fault fault)
+        ensures found { (fault : audit_fault.AuditFault) → self.old.fault ≡ None
+            → IsErrOf result (AuditError.Fault fault)
             → IsMisfit self.new.world self.new.nodes fault }
         ensures kept { (fault : audit_fault.AuditFault) → self.old.fault ≡ Some fault
             → IsErrOf result (AuditError.Fault fault) × (self.new ≡ self.old) }
-        ensures fault { (fault : audit_fault.AuditFault) → IsErrOf result (AuditError.Fault fault) ↔ (self.new.fault ≡ Some fault) }
+        ensures fault { (fault : audit_fault.AuditFault) → IsErrOf result (AuditError.Fault fault)
+            ↔ (self.new.fault ≡ Some fault) }
         ensures not_lost { (frame : Frame) → IsErrOf result (AuditError.NotLost frame)
             → NoneIsReady self.new.nodes × IsNotLost self.new.world self.new.nodes self.new.losing frame }
         ensures memory { IsErrOf result AuditError.Memory → CanBePut self.new }
@@ -312,7 +321,8 @@ impl Auditor {
     pub fn check_books(&self, books: &[Book]) -> Result<(), BehindError>
         ensures ok { OnOk result (AreAllIn self.now.nodes books.now) }
         ensures other_count { IsErrOf result BehindError.OtherCount ↔ (length books.now ≢ length self.now.nodes) }
-        ensures behind { (node : ℕ) → IsErrOf result (BehindError.Behind node) → IsFirstNotAllIn self.now.nodes books.now node }
+        ensures behind { (node : ℕ) → IsErrOf result (BehindError.Behind node)
+            → IsFirstNotAllIn self.now.nodes books.now node }
     {
         check_all(&self.nodes, books)
     }
@@ -407,7 +417,8 @@ impl Auditor {
 /// Notes the event that did not fit, if this answer says so.
 fn note_fault(answer: &Result<(), AuditError>, fault: &mut Option<AuditFault>)
     requires { fault.old ≡ None }
-    ensures { (found : audit_fault.AuditFault) → IsErrOf answer.now (AuditError.Fault found) ↔ (fault.new ≡ Some found) }
+    ensures { (found : audit_fault.AuditFault) → IsErrOf answer.now (AuditError.Fault found)
+        ↔ (fault.new ≡ Some found) }
 {
     if let Err(AuditError::Fault(found)) = answer {
         *fault = Some(*found);

@@ -15,8 +15,8 @@ use thiserror::Error;
 /// Why not each grant is in the run.
 #[derive(Clone, Copy, Debug, PartialEq, Eq, Error)]
 pub enum GrantError {
-    /// For this grant there is no `Entered` mark among those that were told: its request never entered, or the mark is that of an
-    /// equal grant.
+    /// For this grant there is no `Entered` mark among those that were told: its request never entered, or the mark is
+    /// that of an equal grant.
     GrantMissing(Grant),
     /// A mark was forgotten, so that it is not known whether a grant is missing.
     Memory,
@@ -28,16 +28,16 @@ impl fmt::Display for GrantError {
     }
 }
 
-/// An observer that matches the grants that clients were given with the `Entered` marks of the run, one for one. Give it each grant
-/// by [`GrantMatcher::grant`], before or after its mark is told. At the end [`GrantMatcher::check`] says whether each has a mark of its
-/// own.
+/// An observer that matches the grants that clients were given with the `Entered` marks of the run, one for one. Give
+/// it each grant by [`GrantMatcher::grant`], before or after its mark is told. At the end [`GrantMatcher::check`] says
+/// whether each has a mark of its own.
 ///
-/// It keeps the grants whose marks were not told yet, and the marks whose grants it was not given yet. What is matched takes no
-/// memory, so it does not grow with the run if it is given each grant. The cost of each grant and each mark is linear in what it
-/// keeps.
+/// It keeps the grants whose marks were not told yet, and the marks whose grants it was not given yet. What is matched
+/// takes no memory, so it does not grow with the run if it is given each grant. The cost of each grant and each mark is
+/// linear in what it keeps.
 ///
-/// It forgets a mark only if memory runs out for it. No clause says so, since contracts don't see for how many marks it has
-/// room. Even then [`GrantMatcher::check`] is `Ok` only if each grant has a mark of its own.
+/// It forgets a mark only if memory runs out for it. No clause says so, since contracts don't see for how many marks it
+/// has room. Even then [`GrantMatcher::check`] is `Ok` only if each grant has a mark of its own.
 ///
 /// Contracts see the marks, the grants and what it keeps.
 #[derive(Drop)]
@@ -57,9 +57,21 @@ impl Model for GrantMatcher {
 
     ghost Value = { MatcherState };
 
-    ghost view = { λ m. record { told = m.told; grants = m.grants.items; waiting = m.waiting.items; left = m.left.items; forgot = m.forgot } };
+    ghost view = { λ m. record {
+      told = m.told;
+      grants = m.grants.items;
+      waiting = m.waiting.items;
+      left = m.left.items;
+      forgot = m.forgot;
+    } };
 
-    ghost invariant = { λ m. IsMatcher (record { told = m.told; grants = m.grants.items; waiting = m.waiting.items; left = m.left.items; forgot = m.forgot }) };
+    ghost invariant = { λ m. IsMatcher (record {
+      told = m.told;
+      grants = m.grants.items;
+      waiting = m.waiting.items;
+      left = m.left.items;
+      forgot = m.forgot;
+    }) };
 }
 
 impl GrantMatcher {
@@ -76,7 +88,8 @@ impl GrantMatcher {
         }
     }
 
-    /// Gives it a grant. If it keeps a mark of the grant, the two are matched, and it keeps the mark no longer. Otherwise the grant waits.
+    /// Gives it a grant. If it keeps a mark of the grant, the two are matched, and it keeps the mark no longer.
+    /// Otherwise the grant waits.
     ///
     /// # Errors
     ///
@@ -99,8 +112,9 @@ impl GrantMatcher {
         Ok(())
     }
 
-    /// Tells whether each grant that it was given has an `Entered` mark of its own among those that it was told. Call it at the end,
-    /// when no grant is still to be given and no mark still to be told. The cost does not depend on what it keeps.
+    /// Tells whether each grant that it was given has an `Entered` mark of its own among those that it was told. Call
+    /// it at the end, when no grant is still to be given and no mark still to be told. The cost does not depend on what
+    /// it keeps.
     ///
     /// # Errors
     ///
@@ -138,8 +152,8 @@ impl GrantMatcher {
         self.left.len()
     }
 
-    /// Is told one more `Entered` mark, and matches it with a grant that waits, or keeps it, or forgets it. It forgets it only
-    /// if there is no room for it, which the clauses leave open.
+    /// Is told one more `Entered` mark, and matches it with a grant that waits, or keeps it, or forgets it. It forgets
+    /// it only if there is no room for it, which the clauses leave open.
     fn enter(&mut self, mark: &Mark, entry: &Entry)
         requires { mark.now ≡ entry_mark.Mark.Entered entry.now }
         ensures told { self.new.told ≡ self.old.told ++ mark.now ∷ [] }
@@ -162,8 +176,8 @@ impl MarkObserver for GrantMatcher {
 
     ghost granted = { λ m. m.grants };
 
-    /// Is told one more mark of the run. An `Entered` mark is matched with a grant of its request that waits. If no grant
-    /// of the request waits, the mark is kept or forgotten.
+    /// Is told one more mark of the run. An `Entered` mark is matched with a grant of its request that waits. If no
+    /// grant of the request waits, the mark is kept or forgotten.
     fn tell(&mut self, mark: &Mark)
         ensures told { self.new.told ≡ self.old.told ++ mark.now ∷ [] }
         ensures granted { self.new.grants ≡ self.old.grants }
@@ -171,7 +185,7 @@ impl MarkObserver for GrantMatcher {
     {
         match mark {
             Mark::Entered(entry) => self.enter(mark, entry),
-            Mark::Requested(_) | Mark::Left(_) => self.told.tell(mark),
+            Mark::Requested(_) | Mark::Left(_) | Mark::Withdrawn(_) => self.told.tell(mark),
         }
     }
 }

@@ -14,7 +14,7 @@ use Rattle.ra_stamp.specs.Stamp.{IsEarlier}
 use Rattle.ra_automaton.specs.declared.phase.Phase.{Phase}
 use Rattle.ra_automaton.specs.declared.phase.Phase.TheVariants.{Idle, Waiting, Inside}
 use Rattle.ra_automaton.specs.State.{State, IsOther, IsWaitingPhase, IsInside, HasNumber, IsConsistent}
-use Rattle.ra_automaton.specs.Steps.{others_of, later_of, Begins, RequestStep, Defers, RepliesAtOnce, TakesReply, ReceiveStep, LeaveStep, LeaveAndRequestStep, OwnGoesFirst}
+use Rattle.ra_automaton.specs.Steps.{others_of, later_of, Begins, RequestStep, Defers, RepliesAtOnce, TakesReply, ReceiveStep, LeaveStep, LeaveAndRequestStep, WithdrawStep, WithdrawAndRequestStep, OwnGoesFirst}
 use Rattle.ra_automaton.proofs.Apart.{tied, untied, cases_same}
 use Rattle.ra_automaton.proofs.Ranges.{any_inside, any_passes}
 
@@ -224,6 +224,29 @@ consistent_end s h inside =
     some_is_not_none : (number : ℕ) → ◌≡◌ {A = Option ℕ} (Some number) None → ⊥
     some_is_not_none number e = cc
 
+-- a state without a request is consistent if it awaits and defers nothing
+pub consistent_withdrawn : (s : State) → IsConsistent s → IsConsistent (record s { phase = Idle; awaited = set.empty; deferred = map.empty })
+consistent_withdrawn s h =
+    record {
+      count = h.count;
+      member = h.member;
+      awaited_others = λ node yes. absurd (true_is_not_false (sym yes ∙ set.contains-empty nat_cmp node));
+      deferred_others = λ node number k. absurd (some_is_not_none number (sym k ∙ map.get-empty nat_cmp node));
+      deferred_numbers = λ node number k. absurd (some_is_not_none number (sym k ∙ map.get-empty nat_cmp node));
+      awaits = λ w. absurd w;
+      awaits_only = λ _. refl;
+      defers_only = λ _. refl;
+      numbered = tt;
+    }
+  where
+    some_is_not_none : (number : ℕ) → ◌≡◌ {A = Option ℕ} (Some number) None → ⊥
+    some_is_not_none number e = cc
+
+-- a node inside awaits nobody, so at its end it need not forget anybody
+pub ended_inside : (s : State) → IsConsistent s → IsInside s.phase
+    → record s { phase = Idle; awaited = set.empty; deferred = map.empty } ≡ record s { phase = Idle; deferred = map.empty }
+ended_inside s h inside = λ i. record s { phase = Idle; awaited = sym (h.awaits_only (inside_is_not_waiting s.phase inside)) i; deferred = map.empty }
+
 own_is_busy : (phase : Phase) (me other number : ℕ) (wanted : Mode) → OwnGoesFirst phase me other number wanted → phase ≢ Idle
 own_is_busy Idle me other number wanted h e = h
 own_is_busy (Waiting seq mode) me other number wanted h e = absurd cc
@@ -261,7 +284,35 @@ consistent_leave old sends new h step =
 
 pub consistent_leave_and_request : (old : State) (mode : Mode) (sends : List Message) (entered : Bool) (new : State) → IsConsistent old → LeaveAndRequestStep old mode sends entered new → IsConsistent new
 consistent_leave_and_request old mode sends entered new h step =
-    consistent_request step.between mode step.requests entered new (consistent_leave old step.replies step.between h step.leaves) step.asks
+    consistent_request step.between mode step.requests entered new (consistent_leave old step.replies step.between h step.ends) step.asks
+
+pub consistent_withdraw : (old : State) (sends : List Message) (new : State) → IsConsistent old → WithdrawStep old sends new → IsConsistent new
+consistent_withdraw old sends new h step = subst IsConsistent (sym step.new_is) (consistent_withdrawn old h)
+
+pub consistent_withdraw_and_request : (old : State) (mode : Mode) (sends : List Message) (entered : Bool) (new : State) → IsConsistent old → WithdrawAndRequestStep old mode sends entered new → IsConsistent new
+consistent_withdraw_and_request old mode sends entered new h step =
+    consistent_request step.between mode step.requests entered new (consistent_withdraw old step.replies step.between h step.ends) step.asks
+
+-- what a node that waits, waits with
+pub waiting_is : (phase : Phase) → IsWaitingPhase phase → (seq : ℕ) × (mode : Mode) × (phase ≡ Waiting seq mode)
+waiting_is Idle h = absurd h
+waiting_is (Waiting seq mode) h = (seq, mode, refl)
+waiting_is (Inside seq mode) h = absurd h
+
+-- a test whether the node waits tells so of the state that is seen
+pub told_waiting : (kept now : State) (seq : ℕ) (mode : Mode) → kept ≡ now → kept.phase ≡ Waiting seq mode → IsTrue true ↔ IsWaitingPhase now.phase
+told_waiting kept now seq mode same is = subst (λ (phase : Phase). IsTrue true ↔ IsWaitingPhase phase) (sym is ∙ ap (λ (s : State). s.phase) same) (λ _. tt, λ _. refl)
+
+pub told_not_waiting : (kept now : State) → kept ≡ now → ((seq : ℕ) (mode : Mode) → kept.phase ≡ Waiting seq mode → ⊥) → IsTrue false ↔ IsWaitingPhase now.phase
+told_not_waiting kept now same apart =
+    (λ yes. absurd (true_is_not_false (sym yes)), λ waits. let own = waiting_is now.phase waits in absurd (apart own.0 own.1 (ap (λ (s : State). s.phase) same ∙ own.2)))
+
+-- a node with a request is not idle
+pub inside_is_busy : (phase : Phase) → IsInside phase → phase ≢ Idle
+inside_is_busy phase inside idle = subst IsInside idle inside
+
+pub waiting_is_busy : (phase : Phase) → IsWaitingPhase phase → phase ≢ Idle
+waiting_is_busy phase waits idle = subst IsWaitingPhase idle waits
 
 -- what a node inside holds
 pub inside_is : (phase : Phase) → IsInside phase → (seq : ℕ) × (mode : Mode) × (phase ≡ Inside seq mode)

@@ -5,5 +5,6 @@ mod Tables
 pub mod Opening
 mod Sent
 pub mod Consistent
+pub mod Ending
 pub mod Refusals
 mod DeferredLemmas

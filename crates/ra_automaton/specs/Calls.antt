@@ -9,8 +9,11 @@ use Rattle.ra_automaton.specs.declared.error.LeaveError.{LeaveError}
 use Rattle.ra_automaton.specs.declared.error.LeaveError.TheVariants.{NotHeld}
 use Rattle.ra_automaton.specs.declared.error.ReceiveError.{ReceiveError}
 use Rattle.ra_automaton.specs.declared.error.ReceiveError.TheVariants.{WrongNode, Stranger}
-use Rattle.ra_automaton.specs.State.{State, IsInside}
+use Rattle.ra_automaton.specs.declared.error.WithdrawError.{WithdrawError}
+use Rattle.ra_automaton.specs.declared.error.WithdrawError.TheVariants.{NotWaiting}
+use Rattle.ra_automaton.specs.State.{State, IsInside, IsWaitingPhase}
 use Rattle.ra_automaton.specs.Steps.{RequestStep, ReceiveStep, LetsEnter, LeaveStep, LeaveAndRequestStep}
+use Rattle.ra_automaton.specs.Steps.{WithdrawStep, WithdrawAndRequestStep}
 
 -- a request is made
 pub record AnswersRequest {E : Type 0} (old : State) (mode : Mode) (answer : Result Reaction E) (new : State) : Type 0 where
@@ -41,4 +44,17 @@ pub record AnswersLeaveAndRequest (old : State) (mode : Mode) (answer : Result R
     : Type 0 where
   pub ok : IfOk answer (λ reaction. LeaveAndRequestStep old mode reaction.sends.items reaction.entered new)
   pub not_held : IsErrOf answer NotHeld ↔ (IsInside old.phase → ⊥)
+  pub err : OnErr answer (new ≡ old)
+
+-- the request is withdrawn, and `NotWaiting` is answered exactly if the node does not wait
+pub record AnswersWithdraw (old : State) (answer : Result Reaction WithdrawError) (new : State) : Type 0 where
+  pub ok : IfOk answer (λ reaction. WithdrawStep old reaction.sends.items new × (reaction.entered ≡ false))
+  pub not_waiting : IsErrOf answer NotWaiting ↔ (IsWaitingPhase old.phase → ⊥)
+  pub err : OnErr answer (new ≡ old)
+
+-- the request is withdrawn and another one is made, and `NotWaiting` is answered exactly if the node does not wait
+pub record AnswersWithdrawAndRequest (old : State) (mode : Mode) (answer : Result Reaction WithdrawError) (new : State)
+    : Type 0 where
+  pub ok : IfOk answer (λ reaction. WithdrawAndRequestStep old mode reaction.sends.items reaction.entered new)
+  pub not_waiting : IsErrOf answer NotWaiting ↔ (IsWaitingPhase old.phase → ⊥)
   pub err : OnErr answer (new ≡ old)

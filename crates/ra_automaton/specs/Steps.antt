@@ -1,5 +1,5 @@
 -- The rules of the algorithm: what a node does when its client asks for the resource, when a message comes, and when
--- its client leaves. Whatever a rule does not mention stays as it was.
+-- its client leaves or gives up waiting. Whatever a rule does not mention stays as it was.
 --
 -- The rules are those of G. Ricart and A. K. Agrawala, CACM 24(1), 1981. This project adds its own:
 -- - Requests have modes, and exclude each other only if these conflict.
@@ -7,6 +7,8 @@
 -- - A REPLY carries the number of its request, so that strays can be told apart.
 -- - A deferral keeps the greater of two numbers.
 -- - Messages go out in ascending order of the nodes, and at a leave the REPLYs come first.
+-- - A request that waits can be withdrawn: its node answers all whom it has deferred, as at a leave.
+-- - The highest number that a node has met may rise at any time.
 -- - No request comes after the greatest number.
 use Rattle.std.specs.Prelude.{◌≡◌, ℕ, ◌+◌, ◌-◌, ◌<◌, ◌^◌, ◌⊎◌, max, Bool, true, false, not}
 use Rattle.std.specs.Prelude.{List, [], ◌∷◌, ◌++◌, filter, map, Option, Some, None, IsTrue, ◌==◌}
@@ -158,14 +160,34 @@ pub record LeaveStep (old : State) (sends : List Message) (new : State) : Type 0
       ≡ map (λ deferred. Reply old.me deferred.0 old.name deferred.1) (finmap.entries old.deferred)
   pub new_is : new ≡ record old { phase = Idle; deferred = finmap.empty }
 
--- ---- The client leaves and another one asks, in one event: the REPLYs come first.
+-- ---- The client gives up while it waits: each deferred REPLY goes out, and no REPLY is awaited any more.
 
--- the node leaves, and then requests again in this mode
-pub record LeaveAndRequestStep (old : State) (mode : Mode) (sends : List Message) (entered : Bool)
-    (new : State) : Type 0 where
+-- a withdrawal needs a node that waits, and makes it idle; its highest number stays, so its next request has a greater one
+pub record WithdrawStep (old : State) (sends : List Message) (new : State) : Type 0 where
+  pub seq : ℕ
+  pub mode : Mode
+  pub waits : old.phase ≡ Waiting seq mode
+  -- in ascending order of the nodes
+  pub sends_are : sends
+      ≡ map (λ deferred. Reply old.me deferred.0 old.name deferred.1) (finmap.entries old.deferred)
+  pub new_is : new ≡ record old { phase = Idle; awaited = set.empty; deferred = finmap.empty }
+
+-- ---- The client leaves or gives up, and another one asks, in one event: the REPLYs come first.
+
+-- the node's request ends in this way, and then the node requests again in this mode
+pub record EndAndRequestStep (Ends : List Message → State → Type 0) (mode : Mode) (sends : List Message)
+    (entered : Bool) (new : State) : Type 0 where
   pub between : State
   pub replies : List Message
   pub requests : List Message
-  pub leaves : LeaveStep old replies between
+  pub ends : Ends replies between
   pub asks : RequestStep between mode requests entered new
   pub sends_are : sends ≡ replies ++ requests
+
+-- the node leaves, and then requests again
+abbrev pub LeaveAndRequestStep : State → Mode → List Message → Bool → State → Type 0
+LeaveAndRequestStep old mode sends entered new = EndAndRequestStep (LeaveStep old) mode sends entered new
+
+-- the node withdraws its request, and then requests again
+abbrev pub WithdrawAndRequestStep : State → Mode → List Message → Bool → State → Type 0
+WithdrawAndRequestStep old mode sends entered new = EndAndRequestStep (WithdrawStep old) mode sends entered new

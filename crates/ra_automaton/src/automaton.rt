@@ -9,7 +9,7 @@ use crate::cases::{
 use crate::deferrals::Deferrals;
 use crate::node_set::NodeSet;
 use crate::sends::push_requests;
-use crate::{LeaveError, NewError, Phase, Reaction, ReceiveError, RequestError};
+use crate::{LeaveError, NewError, Phase, Reaction, ReceiveError, RequestError, WithdrawError};
 use ra_stamp::{Member, Memory, Message, Messages, Mode, Name, NodeId, Stamp};
 use std::alloc::Global;
 use std::marker::Model;
@@ -53,6 +53,7 @@ impl Automaton {
     ghost use Rattle.ra_automaton.specs.Steps.{Begins, Defers, RepliesAtOnce, TakesReply, LetsEnter};
     ghost use Rattle.ra_automaton.specs.Calls.{AnswersRequest, ChecksAddress, AnswersReceive};
     ghost use Rattle.ra_automaton.specs.Calls.{AnswersLeave, AnswersLeaveAndRequest};
+    ghost use Rattle.ra_automaton.specs.Calls.{AnswersWithdraw, AnswersWithdrawAndRequest};
     ghost use Rattle.ra_automaton.specs.Members.{ChecksMember};
     ghost use Rattle.ra_automaton.specs.Memory.{IsRepliedAtOnce};
     ghost use Rattle.ra_automaton.specs.NodeSet.{nobody_of};
@@ -225,8 +226,8 @@ impl Automaton {
         self.leave_into(alloc, Messages::new(alloc))
     }
 
-    /// Leaves as `leave` does, and puts the messages into an empty list. It does not allocate if the list has room for a
-    /// message to each node.
+    /// Leaves as `leave` does, and puts the messages into an empty list. It does not allocate if the list has room for
+    /// a message to each node.
     ///
     /// # Errors
     ///
@@ -267,8 +268,8 @@ impl Automaton {
         self.leave_and_request_into(alloc, mode, Messages::new(alloc))
     }
 
-    /// Does what `leave_and_request` does, and puts the messages into an empty list. It does not allocate if the list has
-    /// room for two messages to each node.
+    /// Does what `leave_and_request` does, and puts the messages into an empty list. It does not allocate if the list
+    /// has room for two messages to each node.
     ///
     /// # Errors
     ///
@@ -294,6 +295,108 @@ impl Automaton {
         let room = self.end(alloc);
         let entered = self.begin(mode, room);
         Ok(Reaction { sends, entered })
+    }
+
+    /// Withdraws the request that waits, and sends each REPLY that is deferred. The other nodes are not told: a REPLY
+    /// that comes later is a stray. The highest number stays. The cost is linear in the number of nodes.
+    ///
+    /// # Errors
+    ///
+    /// The automaton is then as before. The first that holds:
+    ///
+    /// 1. `NotWaiting`: the node does not wait.
+    /// 2. `Memory`: memory ran out.
+    pub fn withdraw(&mut self, alloc: Global) -> Result<Reaction, WithdrawError>
+        ensures withdrawn { AnswersWithdraw self.old result self.new }
+        ensures consistent { IsConsistent self.new }
+    {
+        self.withdraw_into(alloc, Messages::new(alloc))
+    }
+
+    /// Withdraws the request as `withdraw` does, and puts the messages into an empty list. It does not allocate if the
+    /// list has room for a message to each node.
+    ///
+    /// # Errors
+    ///
+    /// Those of `withdraw`. `Memory` comes only if the list has less room.
+    pub fn withdraw_into(
+        &mut self,
+        alloc: Global,
+        mut sends: Messages,
+    ) -> Result<Reaction, WithdrawError>
+        requires { sends.items ≡ [] }
+        ensures withdrawn { AnswersWithdraw self.old result self.new }
+        ensures consistent { IsConsistent self.new }
+        ensures room { self.old.nodes ≤ sends.spare → IsErrOf result WithdrawError.Memory → ⊥ }
+    {
+        if !self.is_waiting() {
+            return Err(WithdrawError::NotWaiting);
+        }
+        let Ok(()) = self.push_replies(&mut sends) else {
+            return Err(WithdrawError::Memory);
+        };
+        // The node is idle now, so the room for deferred nodes goes.
+        let _room = self.end(alloc);
+        let entered = false;
+        Ok(Reaction { sends, entered })
+    }
+
+    /// Withdraws the request that waits and makes another one, in one event: the REPLYs come first. A number must be
+    /// left. The cost is linear in the number of nodes.
+    ///
+    /// # Errors
+    ///
+    /// The automaton is then as before. The first that holds:
+    ///
+    /// 1. `NotWaiting`: the node does not wait.
+    /// 2. `Memory`: memory ran out.
+    pub fn withdraw_and_request(
+        &mut self,
+        alloc: Global,
+        mode: Mode,
+    ) -> Result<Reaction, WithdrawError>
+        requires { self.old.highest < greatest_number }
+        ensures withdrawn { AnswersWithdrawAndRequest self.old mode result self.new }
+        ensures consistent { IsConsistent self.new }
+    {
+        self.withdraw_and_request_into(alloc, mode, Messages::new(alloc))
+    }
+
+    /// Does what `withdraw_and_request` does, and puts the messages into an empty list. It does not allocate if the
+    /// list has room for two messages to each node.
+    ///
+    /// # Errors
+    ///
+    /// Those of `withdraw_and_request`. `Memory` comes only if the list has less room.
+    pub fn withdraw_and_request_into(
+        &mut self,
+        alloc: Global,
+        mode: Mode,
+        mut sends: Messages,
+    ) -> Result<Reaction, WithdrawError>
+        requires number_left { self.old.highest < greatest_number }
+        requires none { sends.items ≡ [] }
+        ensures withdrawn { AnswersWithdrawAndRequest self.old mode result self.new }
+        ensures consistent { IsConsistent self.new }
+        ensures room { 2 * self.old.nodes ≤ sends.spare → IsErrOf result WithdrawError.Memory → ⊥ }
+    {
+        if !self.is_waiting() {
+            return Err(WithdrawError::NotWaiting);
+        }
+        let Ok(()) = self.push_turn(&mut sends, mode) else {
+            return Err(WithdrawError::Memory);
+        };
+        let room = self.end(alloc);
+        let entered = self.begin(mode, room);
+        Ok(Reaction { sends, entered })
+    }
+
+    /// Raises the highest number that the node has met to this one, 0 to 2^64-1, if it is lower. It does not allocate.
+    pub fn raise(&mut self, number: u64)
+        ensures raised { self.new ≡ record self.old { highest = max self.old.highest number } }
+        ensures consistent { IsConsistent self.new }
+    {
+        self.highest = self.highest.max(number);
     }
 
     /// Returns the node's number. It does not allocate.
@@ -345,9 +448,9 @@ impl Automaton {
         self.deferrals.get(node)
     }
 
-    /// Returns whether a message is the last REPLY that the node awaits: received as a message for it about this resource, it lets
-    /// the node enter. It does not allocate. The cost is constant. It is asked before anything changes: few messages let a node enter,
-    /// and only for those it needs room for a mark.
+    /// Returns whether a message is the last REPLY that the node awaits: received as a message for it about this
+    /// resource, it lets the node enter. It does not allocate. The cost is constant. It is asked before anything
+    /// changes: few messages let a node enter, and only for those it needs room for a mark.
     pub fn lets_enter(&self, message: &Message) -> bool
         ensures { IsTrue result ↔ LetsEnter self.now message.now }
     {
@@ -361,8 +464,8 @@ impl Automaton {
         }
     }
 
-    /// Returns whether a message is a REQUEST whose REPLY is not deferred: received as a message for the node about this resource,
-    /// it is answered at once. It does not allocate. The cost is constant.
+    /// Returns whether a message is a REQUEST whose REPLY is not deferred: received as a message for the node about
+    /// this resource, it is answered at once. It does not allocate. The cost is constant.
     pub fn replies_at_once(&self, message: &Message) -> bool
         ensures { IsTrue result ↔ IsRepliedAtOnce self.now message.now }
     {
@@ -388,6 +491,14 @@ impl Automaton {
         matches!(self.phase, Phase::Inside { .. })
     }
 
+    /// Returns whether the node waits.
+    fn is_waiting(&self) -> bool
+        ensures value { IsTrue result ↔ IsWaitingPhase self.now.phase }
+        ensures consistent { IsConsistent self.now }
+    {
+        matches!(self.phase, Phase::Waiting { .. })
+    }
+
     /// Adds the REPLYs that are deferred. It does not allocate if there is room for one to each node.
     ///
     /// # Errors
@@ -403,8 +514,8 @@ impl Automaton {
         self.deferrals.push_replies(sends, me, self.name)
     }
 
-    /// Adds the REPLYs that are deferred and then the REQUESTs that a client makes next, in this mode. It does not allocate if
-    /// there is room for two messages to each node.
+    /// Adds the REPLYs that are deferred and then the REQUESTs that a client makes next, in this mode. It does not
+    /// allocate if there is room for two messages to each node.
     ///
     /// # Errors
     ///
@@ -421,8 +532,8 @@ impl Automaton {
         push_requests(sends, self.member, self.name, mode, self.highest + 1)
     }
 
-    /// Begins a request, once its messages are made, with room for the nodes that will be deferred. Returns whether it is
-    /// granted at once.
+    /// Begins a request, once its messages are made, with room for the nodes that will be deferred. Returns whether it
+    /// is granted at once.
     fn begin(&mut self, mode: Mode, room: Deferrals) -> bool
         requires idle { self.old.phase ≡ Phase.Idle }
         requires number_left { self.old.highest < greatest_number }
@@ -441,14 +552,22 @@ impl Automaton {
         false
     }
 
-    /// Ends a request that was granted, once the REPLYs are made. Returns the room for deferred nodes, for the next request.
-    /// It does not allocate.
+    /// Ends a request, once the REPLYs are made. Returns the room for deferred nodes, for the next request. It does not
+    /// allocate.
     fn end(&mut self, alloc: Global) -> Deferrals
-        requires { IsInside self.old.phase }
-        ensures ended { self.new ≡ record self.old { phase = Phase.Idle; deferred = finmap.empty } }
+        requires { self.old.phase ≢ Phase.Idle }
+        ensures ended { self.new ≡ record self.old {
+          phase = Phase.Idle;
+          awaited = set.empty;
+          deferred = finmap.empty;
+        } }
+        // A node inside awaited nobody.
+        ensures inside { IsInside self.old.phase
+            → self.new ≡ record self.old { phase = Phase.Idle; deferred = finmap.empty } }
         ensures room { result ≡ nobody_of self.old.nodes }
     {
         self.phase = Phase::Idle;
+        self.awaited = NodeSet::empty();
         let mut room = mem::replace(&mut self.deferrals, Deferrals::none(alloc));
         room.clear();
         room

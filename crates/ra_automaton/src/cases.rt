@@ -6,11 +6,11 @@
 //! A node that waits and one that is inside answer alike. Each of these phases has tables of its own all the same: so
 //! each case of the algorithm is a row, and no row depends on the two phases being alike.
 //!
-//! What the rows come to is proved. Each row of a REQUEST is what `answer_of` computes from whether the modes
-//! conflict and how the stamps compare, and `IsAnswer` says what that tells. The contracts of `Automaton::answer` and
+//! What the rows come to is proved. Each row of a REQUEST is what `answer_of` computes from whether the modes conflict
+//! and how the stamps compare, and `IsAnswer` says what that tells. The contracts of `Automaton::answer` and
 //! `Automaton::effect` depend on it and on the clauses on REPLYs. The clause `received` of `Automaton::receive` depends
-//! on these contracts: in its field `ok`, `ReceiveStep` has the three rules, `Defers` and `RepliesAtOnce` for a REQUEST,
-//! and `TakesReply` for a REPLY.
+//! on these contracts: in its field `ok`, `ReceiveStep` has the three rules, `Defers` and `RepliesAtOnce` for a
+//! REQUEST, and `TakesReply` for a REPLY.
 ghost use Rattle.std.specs.Prelude.{◌≡◌, ◌↔◌, true, false, IsTrue};
 ghost use Rattle.ra_stamp.specs.Stamp.{IsEarlier};
 ghost use Rattle.ra_automaton.specs.Cases.{is_later, answer_of, IsAnswer};

@@ -89,7 +89,8 @@ impl Deferrals {
         self.nodes = NodeSet::empty();
     }
 
-    /// Adds a REPLY to each deferred node, in ascending order. It does not allocate if the list has as much room as this.
+    /// Adds a REPLY to each deferred node, in ascending order. It does not allocate if the list has as much room as
+    /// this.
     ///
     /// # Errors
     ///

@@ -83,3 +83,18 @@ impl fmt::Display for LeaveError {
         fmt::Debug::fmt(self, f)
     }
 }
+
+/// Why no request was withdrawn.
+#[derive(Clone, Copy, Debug, PartialEq, Eq, Error)]
+pub enum WithdrawError {
+    /// The node does not wait.
+    NotWaiting,
+    /// Memory ran out.
+    Memory,
+}
+
+impl fmt::Display for WithdrawError {
+    fn fmt<W: fmt::Write>(&self, f: &mut fmt::Formatter<W>) -> fmt::Result {
+        fmt::Debug::fmt(self, f)
+    }
+}

@@ -15,7 +15,7 @@ mod sends;
 
 pub use address::check_address;
 pub use automaton::Automaton;
-pub use error::{LeaveError, NewError, ReceiveError, RequestError};
+pub use error::{LeaveError, NewError, ReceiveError, RequestError, WithdrawError};
 pub use laws::steps_keep_a_state_consistent;
 pub use phase::Phase;
 pub use reaction::Reaction;

@@ -49,7 +49,8 @@ impl NodeSet {
     pub fn others(member: Member) -> NodeSet
         ensures { result ≡ set.from_list (others_of member.node member.nodes) }
     {
-        // All bits are set at first, and none above the nodes is left: if there are 64 nodes, 1 could not be shifted up so far.
+        // All bits are set at first, and none above the nodes is left: if there are 64 nodes, 1 could not be shifted up
+        // so far.
         let all = u64::MAX >> (64 - member.nodes());
         NodeSet {
             bits: without_bit(all, member.node()),

@@ -24,15 +24,15 @@ use std::marker::Model;
 pub struct Bag {
     /// The messages, with an empty slot for each one that was taken from between others since the slots were closed up.
     slots: VecDeque<Option<Message>>,
-    /// How many slots are empty: at most three times as many as have a message, so that going through all slots is linear
-    /// in the messages.
+    /// How many slots are empty: at most three times as many as have a message, so that going through all slots is
+    /// linear in the messages.
     empty: u64,
     /// In which slots the messages are, to find them.
     places: Places,
     /// Which slots have a message, to find the one at a place.
     filled: Filled,
-    /// The slot before that of the message which was taken last after it was found, where the next one is looked for. No
-    /// clause relies on it.
+    /// The slot before that of the message which was taken last after it was found, where the next one is looked for.
+    /// No clause relies on it.
     beside: usize,
 }
 
@@ -107,8 +107,8 @@ impl Bag {
     /// way. It does not allocate.
     ///
     /// The message at the place `near` is looked at first, at the cost of `at`, and then in constant time the one sent
-    /// before that which `take_from` took last, and the one sent last. If these are others, it is looked for at the cost of
-    /// `take`. No clause says which of several equal messages is found in a slot.
+    /// before that which `take_from` took last, and the one sent last. If these are others, it is looked for at the
+    /// cost of `take`. No clause says which of several equal messages is found in a slot.
     #[inline(always)]
     pub fn find(&mut self, message: &Message, near: u64) -> Option<Found>
         ensures same { self.new ≡ self.old }
@@ -243,11 +243,11 @@ impl Bag {
     /// is equal, and otherwise the first equal one. If it was found in a slot, it may be any equal one. It does not
     /// allocate.
     ///
-    /// If the message is where it was found, the cost is that of `at` for a place, and that of removing it.
-    /// Removing takes amortized constant time if the message is at an end, or if the bag keeps a bit for each slot. It
-    /// learns these bits after a message was taken from between more than 1,024, or looked for among more than 64.
-    /// Otherwise removing takes time linear in the distance from the nearer end. If the message is not the first of equal
-    /// ones, the bag has to learn anew in which slot each message is. If it is not there, the cost is that of `take`.
+    /// If the message is where it was found, the cost is that of `at` for a place, and that of removing it. Removing
+    /// takes amortized constant time if the message is at an end, or if the bag keeps a bit for each slot. It learns
+    /// these bits after a message was taken from between more than 1,024, or looked for among more than 64. Otherwise
+    /// removing takes time linear in the distance from the nearer end. If the message is not the first of equal ones,
+    /// the bag has to learn anew in which slot each message is. If it is not there, the cost is that of `take`.
     #[inline(always)]
     pub fn take_from(&mut self, found: Found, message: &Message)
         requires { Contains self.old.items message.now }
@@ -301,7 +301,8 @@ fn slot_at(slots: &VecDeque<Option<Message>>, empty: u64, filled: &Filled, place
     slot_among(slots, filled, place)
 }
 
-/// Returns the slot of the message at this place, or a slot past the end if there is no such place. Some slots may be empty.
+/// Returns the slot of the message at this place, or a slot past the end if there is no such place. Some slots may be
+/// empty.
 fn slot_among(slots: &VecDeque<Option<Message>>, filled: &Filled, place: u64) -> usize
     requires { KeepsShown filled.now slots.now.items }
     ensures { IsSlotAt slots.now.items place result }
@@ -393,8 +394,9 @@ fn remove(
     }
 }
 
-/// Returns how many of this many slots may be empty before they are closed up: half of them. If the slots of each message are
-/// known, it is three quarters, since closing up has them learned anew, each message at the cost of putting it.
+/// Returns how many of this many slots may be empty before they are closed up: half of them. If the slots of each
+/// message are known, it is three quarters, since closing up has them learned anew, each message at the cost of putting
+/// it.
 #[inline(always)]
 fn most_empty(slots: u64, known: bool) -> u64
     ensures { 4 * result ≤ 3 * slots }

@@ -48,8 +48,8 @@ impl Filled {
         !self.words.is_empty()
     }
 
-    /// Notes that a message was looked for among this many slots. Unless they are few, the bits are to be learned, so that
-    /// what is learned of the slots lasts when a message is taken from between others.
+    /// Notes that a message was looked for among this many slots. Unless they are few, the bits are to be learned, so
+    /// that what is learned of the slots lasts when a message is taken from between others.
     pub fn want(&mut self, slots: usize)
         ensures { (of : List (Option Message)) → KeepsShown self.old of → KeepsShown self.new of }
     {
@@ -68,8 +68,8 @@ impl Filled {
         }
     }
 
-    /// Learns the bit of each slot if the bits are to be learned, unless memory runs out. The cost is then linear in the
-    /// slots.
+    /// Learns the bit of each slot if the bits are to be learned, unless memory runs out. The cost is then linear in
+    /// the slots.
     #[inline(always)]
     pub fn learn_if_wanted(&mut self, slots: &VecDeque<Option<Message>>)
         requires { KeepsShown self.old slots.now.items }
@@ -80,9 +80,9 @@ impl Filled {
         }
     }
 
-    /// Learns the bit of each slot anew if bits are kept and the slots are many, for no more slots than before. Otherwise
-    /// no bits are kept from now on. It does not allocate, since the words keep their memory. The cost is linear in the
-    /// slots.
+    /// Learns the bit of each slot anew if bits are kept and the slots are many, for no more slots than before.
+    /// Otherwise no bits are kept from now on. It does not allocate, since the words keep their memory. The cost is
+    /// linear in the slots.
     pub fn learn_anew(&mut self, slots: &VecDeque<Option<Message>>)
         ensures { KeepsShown self.new slots.now.items }
     {
@@ -209,8 +209,8 @@ impl Filled {
         self.gone = 0;
     }
 
-    /// Returns the slot of the message at this place, or a slot past the end if there is no such place. The cost is linear
-    /// in the words before it.
+    /// Returns the slot of the message at this place, or a slot past the end if there is no such place. The cost is
+    /// linear in the words before it.
     pub fn nth(&self, place: u64) -> usize
         ensures { (slots : List (Option Message)) → length slots < 2 ^ 63 → IsShown self.now slots
             → IsSlotAt slots place result }

@@ -27,8 +27,8 @@ pub struct Places {
     first: u64,
     /// Whether a message was looked for among many while no slots were known.
     wanted: bool,
-    /// Where in `numbers` the message was that was found last, so that it is taken without being hashed again. No clause
-    /// relies on it.
+    /// Where in `numbers` the message was that was found last, so that it is taken without being hashed again. No
+    /// clause relies on it.
     sought: usize,
 }
 
@@ -54,8 +54,8 @@ impl Places {
         !self.numbers.is_empty()
     }
 
-    /// Returns the first slot that has a message and where in `numbers` it is, or `None` if no slot has it. The slots of
-    /// each message are known. It does not allocate.
+    /// Returns the first slot that has a message and where in `numbers` it is, or `None` if no slot has it. The slots
+    /// of each message are known. It does not allocate.
     pub fn tell(&self, message: &Message) -> Option<(usize, usize)>
         requires { length self.now.numbers.entries ≢ 0 }
         ensures some { (slots : List (Option Message)) → IsTold ⟦<Message as PartialEq>⟧.eq self.now slots
@@ -68,8 +68,8 @@ impl Places {
         Some((slot as usize, entry))
     }
 
-    /// Returns the first slot that has a message, or `None` if no slot has it, as `tell` does, and notes where the message
-    /// was found.
+    /// Returns the first slot that has a message, or `None` if no slot has it, as `tell` does, and notes where the
+    /// message was found.
     pub fn find(&mut self, message: &Message) -> Option<usize>
         requires { length self.old.numbers.entries ≢ 0 }
         ensures told { (slots : List (Option Message)) → IsTold ⟦<Message as PartialEq>⟧.eq self.old slots
@@ -84,7 +84,8 @@ impl Places {
         Some(slot)
     }
 
-    /// Notes that a message was looked for among this many slots. If they are many, the slots of each message are to be learned.
+    /// Notes that a message was looked for among this many slots. If they are many, the slots of each message are to be
+    /// learned.
     pub fn want(&mut self, slots: usize)
         ensures { (of : List (Option Message)) → IsTold ⟦<Message as PartialEq>⟧.eq self.old of
             → IsTold ⟦<Message as PartialEq>⟧.eq self.new of }
@@ -270,7 +271,8 @@ fn take_number(numbers: &mut IndexMap<Message, u64>, entry: usize, message: &Mes
 #[tactic(auto, using(ra_stamp::proofs::StampLaws::same_messages))]
 fn number_in(numbers: &IndexMap<Message, u64>, entry: usize, message: &Message) -> Option<u64>
     ensures at { IfSome result (λ number. slice_get numbers.now.entries entry ≡ Some (message.now, number)) }
-    ensures found { IfSome result (λ number. lookup (⟦<Message as PartialEq>⟧.eq message.now) numbers.now.entries ≡ Some number) }
+    ensures found { IfSome result
+        (λ number. lookup (⟦<Message as PartialEq>⟧.eq message.now) numbers.now.entries ≡ Some number) }
 {
     let (kept, number) = numbers.get_index(entry)?;
     if *kept == *message {

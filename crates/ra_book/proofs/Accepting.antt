@@ -12,7 +12,7 @@ use Rattle.ra_frame.specs.FrameText.{IsFrameText}
 use Rattle.ra_automaton.specs.State.{IsForNode}
 use Rattle.ra_node.specs.Node.{NodeState, IsConsistentNode}
 use Rattle.ra_book.specs.declared.error.BookError.{BookError}
-use Rattle.ra_book.specs.declared.error.BookError.TheVariants.{Failed, Frame, Busy, Exhausted, NotHeld, WrongNode, Stranger, ClockFull, Memory}
+use Rattle.ra_book.specs.declared.error.BookError.TheVariants.{Failed, Frame, Busy, Exhausted, NotHeld, NotWaiting, WrongNode, Stranger, ClockFull, Memory}
 use Rattle.ra_book.specs.declared.book.event.BookKind.TheVariants.{Got}
 use Rattle.ra_book.specs.History.{clock_after, clock_of}
 use Rattle.ra_book.specs.Book.{BookState, whole_events, HasClock, ReadsFrame}
@@ -126,6 +126,7 @@ module _ (book : BookState) (bytes : List ℕ) where
       by_answer (Err Busy) accepted refused = absurd refused
       by_answer (Err Exhausted) accepted refused = absurd refused
       by_answer (Err NotHeld) accepted refused = absurd refused
+      by_answer (Err NotWaiting) accepted refused = absurd refused
       by_answer (Err WrongNode) accepted refused =
           let f = refused.0 in
           let text = refused.1 in

@@ -1,17 +1,17 @@
 -- A book with one more event, from what is kept of it.
-use Rattle.std.proofs.Common.{◌≡◌, ℕ, ◌+◌, ◌<◌, ◌≤◌, false, List, [], ◌∷◌, ◌++◌, length, take, get_or, All, Result, Ok, Err, sym, ap, ◌∙◌, subst, append_assoc, arith}
+use Rattle.std.proofs.Common.{◌≡◌, ℕ, ◌+◌, ◌<◌, ◌≤◌, ◌^◌, false, List, [], ◌∷◌, ◌++◌, length, take, get_or, All, Result, Ok, Err, refl, sym, ap, ◌∙◌, subst, append_assoc, arith}
 use Rattle.std.specs.Prelude.{IsOk, OnOk}
-use Rattle.std.proofs.lemmas.List.{map_more, map-append}
+use Rattle.std.proofs.lemmas.List.{append-nil, map_more, map-append}
 use Rattle.ra_stamp.specs.declared.entry.Mark.{Mark}
 use Rattle.ra_stamp.specs.declared.message.Message.{Message}
 use Rattle.ra_frame.specs.declared.frame.Frame.{Frame}
 use Rattle.ra_frame.specs.Fits.{Fits}
 use Rattle.ra_automaton.specs.State.{IsForNode}
 use Rattle.ra_node.specs.Node.{NodeState, IsConsistentNode}
-use Rattle.ra_node.specs.Events.{NodeEvent, IsForThisNode}
+use Rattle.ra_node.specs.Events.{ForgetEvent, NodeEvent, IsForThisNode}
 use Rattle.ra_book.specs.declared.book.event_effect.Posted.{Posted}
 use Rattle.ra_book.specs.declared.book.event.BookKind.{BookKind}
-use Rattle.ra_book.specs.declared.book.event.BookKind.TheVariants.{Asked, Gave, Got}
+use Rattle.ra_book.specs.declared.book.event.BookKind.TheVariants.{Asked, Gave, Cancelled, Got, Forgot}
 use Rattle.ra_book.specs.declared.book.event.BookEvent.{BookEvent}
 use Rattle.ra_book.specs.declared.book.sent.Sent.{Sent}
 use Rattle.ra_book.specs.History.{node_event, frames_at}
@@ -33,6 +33,8 @@ for_this_node : (now : BookState) (node : NodeState) (kind : BookKind) → (node
     → IsForThisNode node (node_event kind)
 for_this_node now node (Asked client name mode) same for_it = tt
 for_this_node now node (Gave client name) same for_it = tt
+for_this_node now node (Cancelled client name) same for_it = tt
+for_this_node now node Forgot same for_it = tt
 for_this_node now node (Got frame) same for_it =
     subst (λ (k : ℕ). IsForNode node.me k frame.message) (sym same.1) (subst (λ (k : ℕ). IsForNode k now.nodes frame.message) (sym same.0) for_it.0)
 
@@ -40,6 +42,8 @@ for_this_node now node (Got frame) same for_it =
 frame_fits : (now : BookState) (kind : BookKind) → IsForThisBook now kind → (frame : Frame) → kind ≡ Got frame → Fits frame
 frame_fits now (Asked client name mode) for_it frame is = absurd (cc)
 frame_fits now (Gave client name) for_it frame is = absurd (cc)
+frame_fits now (Cancelled client name) for_it frame is = absurd (cc)
+frame_fits now Forgot for_it frame is = absurd (cc)
 frame_fits now (Got f) for_it frame is = let same : f ≡ frame = cc in subst Fits same for_it.1
 
 module _ (now book : BookState) (old new : NodeState) (clock : ℕ) (kind : BookKind) (events : List BookEvent) (sent : List Sent)
@@ -101,6 +105,34 @@ module _ (now book : BookState) (old new : NodeState) (clock : ℕ) (kind : Book
             subst (λ (fs : List Frame). All Fits fs) (ap (λ (k : ℕ). frames_at k happens.sends) clock_is ∙ sym happens.frames_are)
             (law book old new kind happens.sends posted.marks.items keeps for_it happens.happens has_clock
             (frame_fits now kind next.for_this_book))
+
+-- ---- Names are forgotten
+
+-- nothing is posted
+abbrev nothing : Posted
+nothing = record { frames = record { items = []; spare = 0 }; marks = record { items = []; spare = 0 } }
+
+module _ (now book : BookState) (old new : NodeState) (clock : ℕ) (events : List BookEvent) (keeps : Keeps book old) (is : book ≡ now)
+    (clock_is : clock ≡ next_clock now Forgot) (low : clock ≤ 2 ^ 62) (events_are : events ≡ book.events ++ record { clock = clock; kind = Forgot } ∷ [])
+    (happened : ForgetEvent old [] [] new)
+    (who : (book : BookState) (node : NodeState) → Keeps book node → (node.me ≡ book.me) × (node.nodes ≡ book.nodes) × IsConsistentNode node)
+  where
+    forgets_next : ComesNext now clock Forgot
+    forgets_next = record { clock_is = clock_is; has_clock = subst (λ (k : ℕ). k ≤ 2 ^ 62) clock_is low; for_this_book = tt }
+
+    forgets_then : Happens old new book.events events book.sent book.sent (record { clock = clock; kind = Forgot }) nothing
+    forgets_then = record { sends = []; happens = happened; events_are = events_are; sent_are = sym (append-nil book.sent); frames_are = refl }
+
+    pub forgotten_kept :
+        ((book : BookState) (old new : NodeState) (kind : BookKind) (sends : List Message) (marks : List Mark)
+        → Keeps book old → IsForThisNode old (node_event kind) → NodeEvent old (node_event kind) sends marks new
+        → HasClock book kind
+        → Keeps (with_event book (next_clock book kind) kind (frames_at (next_clock book kind) sends)) new)
+        → Keeps (record book { events = events; sent = book.sent }) new
+    forgotten_kept law = kept_after now book old new clock Forgot events book.sent keeps is forgets_next who law nothing forgets_then
+
+    pub forgotten_added : Adds now Forgot [] [] (record book { events = events; sent = book.sent })
+    forgotten_added = added now book old new clock Forgot events book.sent keeps is forgets_next who nothing forgets_then
 
 -- ---- No event
 

@@ -8,7 +8,7 @@ use Rattle.ra_stamp.specs.declared.message.Message.{Message}
 use Rattle.ra_frame.specs.declared.frame.Frame.{Frame}
 use Rattle.ra_node.specs.Node.{NodeState}
 use Rattle.ra_book.specs.declared.book.event.BookKind.{BookKind}
-use Rattle.ra_book.specs.declared.book.event.BookKind.TheVariants.{Asked, Gave, Got}
+use Rattle.ra_book.specs.declared.book.event.BookKind.TheVariants.{Asked, Gave, Cancelled, Got, Forgot}
 use Rattle.ra_book.specs.declared.book.event.BookEvent.{BookEvent}
 use Rattle.ra_book.specs.declared.book.sent.Sent.{Sent}
 use Rattle.ra_book.specs.History.{Posting, IsHistory, AreClocked, clock_after, frames_at, frames_of}
@@ -17,6 +17,8 @@ use Rattle.ra_book.specs.Keeping.{Ascends}
 pub later_clock : (clock : ℕ) (kind : BookKind) → clock < clock_after clock kind
 later_clock clock (Asked client name mode) = omega arith
 later_clock clock (Gave client name) = omega arith
+later_clock clock (Cancelled client name) = omega arith
+later_clock clock Forgot = omega arith
 later_clock clock (Got frame) = omega arith
 
 -- from this clock on, the frames ascend

@@ -16,7 +16,7 @@ use Rattle.ra_world.specs.Fitting.{TellsApart}
 use Rattle.ra_world.proofs.Lists.{head_of, tail_of}
 use Rattle.ra_world.proofs.Times.{times, times_append, there_once}
 use Rattle.ra_book.specs.declared.book.event.BookKind.{BookKind}
-use Rattle.ra_book.specs.declared.book.event.BookKind.TheVariants.{Asked, Gave, Got}
+use Rattle.ra_book.specs.declared.book.event.BookKind.TheVariants.{Asked, Gave, Cancelled, Got, Forgot}
 use Rattle.ra_book.specs.Settled.{Placed, frames_in, step_at, steps_of}
 use Rattle.ra_book.specs.Repeats.{ComesBy, AreCopiesBefore, AreWithCopies, frames_by}
 use Rattle.ra_book.proofs.Distinct.{AreDifferent, pairs_first, pairs_rest}
@@ -92,6 +92,8 @@ one_only frame m at = elim (first_or_later frame.message [] m at) [ inl same ↦
 touched_at : (i : ℕ) (kind : BookKind) (m : Message) → Contains (taken_in (step_at i kind) ++ repeated_in (step_at i kind)) m → (frame : Frame) × Contains (frames_in kind) frame × (frame.message ≡ m)
 touched_at i (Asked client name mode) m at = absurd (omega (arith, at.1))
 touched_at i (Gave client name) m at = absurd (omega (arith, at.1))
+touched_at i (Cancelled client name) m at = absurd (omega (arith, at.1))
+touched_at i Forgot m at = absurd (omega (arith, at.1))
 touched_at i (Got frame) m at = (frame, first frame [], one_only frame m at)
 
 none_came : (frame : Frame) (m : Message) (taken repeated : ℕ) → taken ≡ 0 → Others [] frame m taken repeated
@@ -188,6 +190,8 @@ last_time is m tells frame p placed before taken repeated among comes last other
     by_kind : (kind : BookKind) → p.event.kind ≡ kind → Others (p ∷ before) frame m (times is (taken_in (step_at p.node kind)) + taken) (times is (repeated_in (step_at p.node kind)) + repeated)
     by_kind (Asked client name mode) same = let enough = others.enough in same_ones _ _ (omega (arith, enough))
     by_kind (Gave client name) same = let enough = others.enough in same_ones _ _ (omega (arith, enough))
+    by_kind (Cancelled client name) same = let enough = others.enough in same_ones _ _ (omega (arith, enough))
+    by_kind Forgot same = let enough = others.enough in same_ones _ _ (omega (arith, enough))
     by_kind (Got g) same = one_more g same (is g.message) refl
 
 after_one : (p : Placed) (placed : List Placed) (prefix : List Step) (step : Step) → All (λ f. ComesBy placed f → ⊥) (frames_in p.event.kind) → PlaceOf placed prefix step

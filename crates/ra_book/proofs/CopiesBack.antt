@@ -8,7 +8,7 @@ use Rattle.ra_frame.specs.declared.frame.Frame.{Frame}
 use Rattle.ra_world.specs.declared.step.Step.{Step}
 use Rattle.ra_world.specs.declared.step.Step.TheVariants.{Repeat}
 use Rattle.ra_book.specs.declared.book.event.BookKind.{BookKind}
-use Rattle.ra_book.specs.declared.book.event.BookKind.TheVariants.{Asked, Gave, Got}
+use Rattle.ra_book.specs.declared.book.event.BookKind.TheVariants.{Asked, Gave, Cancelled, Got, Forgot}
 use Rattle.ra_book.specs.declared.settle_books.event_merge.PlacedEvent.{PlacedEvent}
 use Rattle.ra_book.specs.EventMerge.{placed_at, all_placed_at}
 use Rattle.ra_book.specs.Keys.{FrameKey, HasKeys, frame_key}
@@ -28,6 +28,8 @@ keys placed = map (λ f. frame_key f) (frames_by placed)
 pub none_by : (kind : BookKind) → ((f : Frame) → kind ≡ Got f → ⊥) → frames_in kind ≡ []
 none_by (Asked client name mode) other = refl
 none_by (Gave client name) other = refl
+none_by (Cancelled client name) other = refl
+none_by Forgot other = refl
 none_by (Got f) other = absurd (other f refl)
 
 pub come_same : (set : BTreeSet FrameKey) (p : Placed) (placed : List Placed) → frames_in p.event.kind ≡ [] → HasCome set placed → HasCome set (p ∷ placed)

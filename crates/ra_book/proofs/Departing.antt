@@ -5,6 +5,8 @@ use Rattle.std.proofs.lemmas.List.{append-nil, length-append}
 use Rattle.std.proofs.lemmas.List.Elements.{All-nil, All-push, All-pop}
 use Rattle.ra_stamp.specs.Sequence.{Listed}
 use Rattle.ra_frame.specs.declared.frame.Frame.{Frame}
+use Rattle.ra_node.specs.declared.error.CancelError.{CancelError}
+use Rattle.ra_node.specs.declared.error.CancelError.TheVariants as cancel
 use Rattle.ra_node.specs.declared.error.LeaveError.{LeaveError}
 use Rattle.ra_node.specs.declared.error.LeaveError.TheVariants.{NotHeld, Memory}
 use Rattle.ra_node.specs.declared.outcome.Outcome.{Outcome}
@@ -83,6 +85,16 @@ is_not_refused {X} (Err e) outcome fault is allowed room = room (subst (λ (f : 
 pub is_not_held : {X : Type 0} (result : Result X LeaveError) (fault : LeaveError) → result ≡ Err fault → (IsErrOf result Memory → ⊥) → IsErrOf result NotHeld
 is_not_held result NotHeld is room = is
 is_not_held result Memory is room = absurd (room is)
+
+-- a cancel that does not want memory, of a client that waits or is queued, is not refused
+pub cancel_not_refused : {X : Type 0} (result : Result X CancelError) (outcome : Outcome) (fault : CancelError) → result ≡ Err fault → IsOkUnless (answer_with result outcome) cancel.Memory → (IsErrOf result cancel.Memory → ⊥) → ⊥
+cancel_not_refused (Ok x) outcome fault is allowed room = absurd cc
+cancel_not_refused {X} (Err e) outcome fault is allowed room = room (subst (λ (f : CancelError). IsErrOf {T = X} (Err f) cancel.Memory) (sym allowed) refl)
+
+-- and one that is refused is refused since there is nothing to give up
+pub is_not_waiting : {X : Type 0} (result : Result X CancelError) (fault : CancelError) → result ≡ Err fault → (IsErrOf result cancel.Memory → ⊥) → IsErrOf result cancel.NotWaiting
+is_not_waiting result cancel.NotWaiting is room = is
+is_not_waiting result cancel.Memory is room = absurd (room is)
 
 -- a departure that was taken out, and is unchanged, is put back
 pub put_back : (departures left departures' : List Departure) (departure : Departure) (outcome : Outcome) → departures ≡ left ++ departure ∷ []

@@ -13,7 +13,7 @@ use Rattle.ra_node.specs.Node.{NodeState, resource_at}
 use Rattle.ra_book.specs.declared.error.BookError.{BookError}
 use Rattle.ra_book.specs.declared.error.BookError.TheVariants.{Memory}
 use Rattle.ra_book.specs.declared.book.event.BookKind.{BookKind}
-use Rattle.ra_book.specs.declared.book.event.BookKind.TheVariants.{Asked, Gave, Got}
+use Rattle.ra_book.specs.declared.book.event.BookKind.TheVariants.{Asked, Gave, Cancelled, Got, Forgot}
 use Rattle.ra_book.specs.Refused.{refusal_of_ask, refusal_of_receive}
 use Rattle.ra_book.specs.EventChecks.{MayTake, NodeRefuses, CanHappen, IsRefusedAfter}
 use Rattle.ra_book.proofs.Running.{ComesAt}
@@ -23,6 +23,8 @@ pub never_memory : (node : NodeState) (kind : BookKind) (why : BookError) → No
 never_memory node (Asked client name mode) why (inl busy) is = let wrong = sym busy.0 ∙ is in absurd (cc)
 never_memory node (Asked client name mode) why (inr exhausted) is = let wrong = sym exhausted.0 ∙ is in absurd (cc)
 never_memory node (Gave client name) why refuses is = let wrong = sym refuses.0 ∙ is in absurd (cc)
+never_memory node (Cancelled client name) why refuses is = let wrong = sym refuses.0 ∙ is in absurd (cc)
+never_memory node Forgot why refuses is = absurd refuses
 never_memory node (Got frame) why (inl wrong_node) is = let wrong = sym wrong_node.0 ∙ is in absurd (cc)
 never_memory node (Got frame) why (inr stranger) is = let wrong = sym stranger.0 ∙ is in absurd (cc)
 

@@ -6,7 +6,7 @@ use Rattle.std.proofs.lemmas.List.{take_more, map-append, take_all, append-nil}
 use Rattle.std.proofs.lemmas.List.Elements.{All-weaker}
 use Rattle.ra_stamp.specs.declared.entry.Entry.{Entry}
 use Rattle.ra_stamp.specs.declared.entry.Mark.{Mark}
-use Rattle.ra_stamp.specs.declared.entry.Mark.TheVariants.{Requested, Entered, Left}
+use Rattle.ra_stamp.specs.declared.entry.Mark.TheVariants.{Requested, Entered, Left, Withdrawn}
 use Rattle.ra_book.specs.declared.error.SettleError.{SettleError}
 use Rattle.ra_book.specs.declared.error.SettleError.TheVariants.{NotSent, Twice, GrantMissing, GrantTwice, Memory}
 use Rattle.ra_book.specs.declared.book.grant.Grant.{Grant}
@@ -24,6 +24,7 @@ entered_in-append [] b = refl
 entered_in-append (Requested e ∷ a) b = entered_in-append a b
 entered_in-append (Entered e ∷ a) b = ap (λ (es : List Entry). e ∷ es) (entered_in-append a b)
 entered_in-append (Left e ∷ a) b = entered_in-append a b
+entered_in-append (Withdrawn e ∷ a) b = entered_in-append a b
 
 -- an entry is granted by the marks if its Entered mark is one of them
 pub entered_is_mark : (marks : List Mark) (e : Entry) → Contains (entered_in marks) e → Contains marks (Entered e)
@@ -35,6 +36,7 @@ entered_is_mark (Entered f ∷ marks) e is =
       | inr after ↦ later (Entered f) marks (Entered e) (entered_is_mark marks e after)
     ]
 entered_is_mark (Left f ∷ marks) e is = later (Left f) marks (Entered e) (entered_is_mark marks e is)
+entered_is_mark (Withdrawn f ∷ marks) e is = later (Withdrawn f) marks (Entered e) (entered_is_mark marks e is)
 
 pub mark_is_entered : (marks : List Mark) (e : Entry) → Contains marks (Entered e) → Contains (entered_in marks) e
 mark_is_entered [] e is = absurd (omega (arith, is.1))
@@ -50,6 +52,11 @@ mark_is_entered (Entered f ∷ marks) e is =
     ]
 mark_is_entered (Left f ∷ marks) e is =
     elim (first_or_later (Left f) marks (Entered e) is) [
+      | inl same ↦ absurd cc
+      | inr after ↦ mark_is_entered marks e after
+    ]
+mark_is_entered (Withdrawn f ∷ marks) e is =
+    elim (first_or_later (Withdrawn f) marks (Entered e) is) [
       | inl same ↦ absurd cc
       | inr after ↦ mark_is_entered marks e after
     ]
@@ -82,6 +89,7 @@ key_left_out set marks i m within at not has =
     none (Requested e) not = refl
     none (Entered e) not = absurd (not e refl)
     none (Left e) not = refl
+    none (Withdrawn e) not = refl
 
 -- ---- What it says of a request
 

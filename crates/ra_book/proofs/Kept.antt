@@ -11,10 +11,10 @@ use Rattle.ra_frame.specs.declared.frame.Frame.{Frame}
 use Rattle.ra_frame.specs.Fits.{Fits}
 use Rattle.ra_node.specs.Node.{NodeState, opening_node, IsConsistentNode}
 use Rattle.ra_node.specs.Events.{Event, Happening, name_of_event, NodeEvent, NodeEvents, IsForThisNode, AreForThisNode}
-use Rattle.ra_node.specs.Events.Event.{Ask, Leave, Receive}
+use Rattle.ra_node.specs.Events.Event.{Ask, Leave, Cancel, Receive, Forget}
 use Rattle.ra_node.specs.Carried.{IsSend, sends_at_most, marks_at_most}
 use Rattle.ra_book.specs.declared.book.event.BookKind.{BookKind}
-use Rattle.ra_book.specs.declared.book.event.BookKind.TheVariants.{Asked, Gave, Got}
+use Rattle.ra_book.specs.declared.book.event.BookKind.TheVariants.{Asked, Gave, Cancelled, Got, Forgot}
 use Rattle.ra_book.specs.declared.book.event.BookEvent.{BookEvent}
 use Rattle.ra_book.specs.declared.book.sent.Sent.{Sent}
 use Rattle.ra_book.specs.declared.book.stop.Stop.{Stop}
@@ -37,15 +37,17 @@ opened opening me n start count member =
 for_the_first : (old first : NodeState) (event : Event) → (old.me ≡ first.me) × (old.nodes ≡ first.nodes) → IsForThisNode old event → IsForThisNode first event
 for_the_first old first (Ask client name mode) same h = tt
 for_the_first old first (Leave client name) same h = tt
+for_the_first old first (Cancel client name) same h = tt
+for_the_first old first Forget same h = tt
 for_the_first old first (Receive message) same h = rw (← same.0, ← same.1) h
 
 module _
     (node_stays : (old new : NodeState) (happened : List Happening) → NodeEvents old happened new
-    → (new.me ≡ old.me) × (new.nodes ≡ old.nodes) × (new.start ≡ old.start))
+    → (new.me ≡ old.me) × (new.nodes ≡ old.nodes) × (old.start ≤ new.start))
   where
     -- which node it is
     who : (book : BookState) (node : NodeState) → Keeps book node
-        → (node.me ≡ book.me) × (node.nodes ≡ book.nodes) × (node.start ≡ book.start)
+        → (node.me ≡ book.me) × (node.nodes ≡ book.nodes) × (book.start ≤ node.start)
     who book node keeps =
         node_stays (opening_node book.me book.nodes book.start) node (map happening_of keeps.leads.postings) keeps.leads.leads
 
@@ -104,6 +106,9 @@ module _
             subst (λ (n : ℕ). length sends ≤ n) (who book old keeps).1 (room old new (Ask client name mode) sends marks (consistent book old keeps) happens).0
         few room book old new (Gave client name) sends marks keeps happens =
             subst (λ (n : ℕ). length sends ≤ 2 * n) (who book old keeps).1 (room old new (Leave client name) sends marks (consistent book old keeps) happens).0
+        few room book old new (Cancelled client name) sends marks keeps happens =
+            subst (λ (n : ℕ). length sends ≤ 2 * n) (who book old keeps).1 (room old new (Cancel client name) sends marks (consistent book old keeps) happens).0
+        few room book old new Forgot sends marks keeps happens = (room old new Forget sends marks (consistent book old keeps) happens).0
         few room book old new (Got frame) sends marks keeps happens = by_message frame.message happens
           where
             -- a REPLY is answered by nothing
@@ -115,6 +120,8 @@ module _
         numbered_by : (kind : BookKind) (message : Message) → ((frame : Frame) → kind ≡ Got frame → Fits frame) → node_event kind ≡ Receive message → 1 ≤ seq_of message
         numbered_by (Asked client name mode) message fits is = absurd (cc)
         numbered_by (Gave client name) message fits is = absurd (cc)
+        numbered_by (Cancelled client name) message fits is = absurd (cc)
+        numbered_by Forgot message fits is = absurd (cc)
         numbered_by (Got frame) message fits is =
             let same : frame.message ≡ message = cc in
             subst (λ (m : Message). 1 ≤ seq_of m) same (fits frame refl).seq
@@ -122,6 +129,8 @@ module _
         clock_rises : (clock : ℕ) (kind : BookKind) → 1 ≤ clock_after clock kind
         clock_rises clock (Asked client name mode) = omega arith
         clock_rises clock (Gave client name) = omega arith
+        clock_rises clock (Cancelled client name) = omega arith
+        clock_rises clock Forgot = omega arith
         clock_rises clock (Got frame) = omega arith
 
         pub fit :

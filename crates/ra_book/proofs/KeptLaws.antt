@@ -3,11 +3,10 @@ use Rattle.std.proofs.Common.{◌≡◌, ℕ, ◌≤◌, List}
 use Rattle.ra_stamp.specs.declared.entry.Mark.{Mark}
 use Rattle.ra_stamp.specs.declared.message.Message.{Message}
 use Rattle.ra_stamp.specs.NodeId.{IsNodeNumber}
-use Rattle.ra_automaton.proofs.Consistent.{consistent_request, consistent_receive, consistent_leave}
 use Rattle.ra_node.specs.Node.{NodeState, opening_node, IsConsistentNode}
 use Rattle.ra_node.specs.Events.{Event, Happening, NodeEvent, NodeEvents, IsForThisNode, AreForThisNode}
 use Rattle.ra_node.proofs.NodeLemmas.{opening_is_consistent}
-use Rattle.ra_node.proofs.EventsKept.{event_kept, event_sends, event_numbers, event_room}
+use Rattle.ra_node.proofs.EventsKept.{node_kept, event_sends, event_numbers, event_room}
 use Rattle.ra_node.proofs.Chains.{events_step, history_kept, history_same_node}
 use Rattle.ra_node.proofs.Determined.{event_one}
 use Rattle.ra_book.specs.declared.book.event.BookEvent.{BookEvent}
@@ -24,9 +23,7 @@ use Rattle.ra_book.proofs.Kept as kept
 -- each event of a node leads from a consistent node to a consistent one
 pub stays_consistent : (old new : NodeState) (event : Event) (sends : List Message) (marks : List Mark)
     → IsConsistentNode old → IsForThisNode old event → NodeEvent old event sends marks new → IsConsistentNode new
-stays_consistent =
-    event_kept (λ old new mode sends entered. consistent_request old mode sends entered new)
-    (λ old new message sends entered. consistent_receive old message sends entered new) (λ old new sends. consistent_leave old sends new)
+stays_consistent = node_kept
 
 is_consistent : (me nodes start : ℕ) (new : NodeState) (happened : List Happening)
     → IsNodeNumber nodes → (1 ≤ me) × (me ≤ nodes) → AreForThisNode (opening_node me nodes start) happened
@@ -35,7 +32,7 @@ is_consistent me nodes start new happened count member =
     history_kept stays_consistent happened (opening_node me nodes start) new (opening_is_consistent me nodes start count member)
 
 is_same_node : (old new : NodeState) (happened : List Happening) → NodeEvents old happened new
-    → (new.me ≡ old.me) × (new.nodes ≡ old.nodes) × (new.start ≡ old.start)
+    → (new.me ≡ old.me) × (new.nodes ≡ old.nodes) × (old.start ≤ new.start)
 is_same_node old new happened = history_same_node happened old new
 
 -- ---- The law

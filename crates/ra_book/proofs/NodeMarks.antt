@@ -13,10 +13,10 @@ use Rattle.ra_automaton.specs.State.{IsForNode}
 use Rattle.ra_frame.specs.declared.frame.Frame.{Frame}
 use Rattle.ra_node.specs.Node.{NodeState, opening_node, IsConsistentNode}
 use Rattle.ra_node.specs.Events.{Event, Happening, name_of_event, NodeEvent, NodeEvents, IsForThisNode, AreForThisNode}
-use Rattle.ra_node.specs.Events.Event.{Ask as AskedFor, Leave as GivenBack, Receive as Received}
+use Rattle.ra_node.specs.Events.Event.{Ask as AskedFor, Leave as GivenBack, Cancel as GivenUp, Receive as Received, Forget as Forgot}
 use Rattle.ra_node.specs.Carried.{IsMark}
 use Rattle.ra_world.specs.declared.step.Step.{Step}
-use Rattle.ra_world.specs.declared.step.Step.TheVariants.{Ask, Leave, Deliver, Lose, Repeat}
+use Rattle.ra_world.specs.declared.step.Step.TheVariants.{Ask, Leave, Cancel, Deliver, Lose, Repeat, Forget}
 use Rattle.ra_world.specs.Traffic.{Move, IsUnderWay}
 use Rattle.ra_world.specs.Run.{IsRun, IsFit, AreFit, events_at, happened_at, marks_of}
 use Rattle.ra_book.specs.declared.book.event.BookEvent.{BookEvent}
@@ -47,6 +47,8 @@ module _ (n start : ℕ) (prefixes : (prefix suffix : List Move) → IsRun n sta
       → (i : ℕ) × ((1 ≤ i) × (i ≤ n)) × (event : Event) × (events_at i step ≡ event ∷ [])
   node_of prefix (Ask node client name mode) sends marks run fit is = (node, fit, AskedFor client name mode, ap (λ b. cond b (AskedFor client name mode ∷ []) []) (eq-eqb node node refl))
   node_of prefix (Leave node client name) sends marks run fit is = (node, fit, GivenBack client name, ap (λ b. cond b (GivenBack client name ∷ []) []) (eq-eqb node node refl))
+  node_of prefix (Cancel node client name) sends marks run fit is = (node, fit, GivenUp client name, ap (λ b. cond b (GivenUp client name ∷ []) []) (eq-eqb node node refl))
+  node_of prefix (Forget node) sends marks run fit is = (node, fit, Forgot, ap (λ b. cond b (Forgot ∷ []) []) (eq-eqb node node refl))
   node_of prefix (Deliver message) sends marks run fit is =
       let i = to_of message in (i, goes prefix message run fit, Received message, ap (λ b. cond b (Received message ∷ []) []) (eq-eqb i i refl))
   node_of prefix (Lose message) sends marks run fit is = absurd (unmarked marks fit.2 is)
@@ -96,12 +98,14 @@ made_there i (m ∷ moves) mark is =
 pub for_next : (old next : NodeState) (event : Event) → next.me ≡ old.me → next.nodes ≡ old.nodes → IsForThisNode old event → IsForThisNode next event
 for_next old next (AskedFor client name mode) me nodes h = tt
 for_next old next (GivenBack client name) me nodes h = tt
+for_next old next (GivenUp client name) me nodes h = tt
+for_next old next Forgot me nodes h = tt
 for_next old next (Received message) me nodes h =
     subst (λ (k : ℕ). IsForNode k next.nodes message) (sym me) (subst (λ (k : ℕ). IsForNode old.me k message) (sym nodes) h)
 
 module _ (keeps : (old new : NodeState) (event : Event) (sends : List Message) (marks : List Mark) → IsConsistentNode old → IsForThisNode old event → NodeEvent old event sends marks new → IsConsistentNode new)
     (makes : (old new : NodeState) (event : Event) (sends : List Message) (marks : List Mark) → IsConsistentNode old → IsForThisNode old event → NodeEvent old event sends marks new → All (IsMark old.me (name_of_event event)) marks)
-    (stays : (old new : NodeState) (event : Event) (sends : List Message) (marks : List Mark) → NodeEvent old event sends marks new → (new.me ≡ old.me) × (new.nodes ≡ old.nodes) × (new.start ≡ old.start)) where
+    (stays : (old new : NodeState) (event : Event) (sends : List Message) (marks : List Mark) → NodeEvent old event sends marks new → (new.me ≡ old.me) × (new.nodes ≡ old.nodes) × (old.start ≤ new.start)) where
   pub own_marks : (happened : List Happening) (old new : NodeState) → IsConsistentNode old → AreForThisNode old happened → NodeEvents old happened new → All (λ m. (entry_of_mark m).stamp.node ≡ old.me) (marks_by happened)
   own_marks [] old new consistent for events = All-nil _
   own_marks (h ∷ happened) old new consistent for events =

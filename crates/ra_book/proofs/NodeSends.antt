@@ -19,7 +19,7 @@ use Rattle.ra_book.proofs.NodeMarks.{for_next}
 module _ (keeps : (old new : NodeState) (event : Event) (sends : List Message) (marks : List Mark) → IsConsistentNode old → IsForThisNode old event → NodeEvent old event sends marks new → IsConsistentNode new)
     (sends_own : (old new : NodeState) (event : Event) (sends : List Message) (marks : List Mark) → IsConsistentNode old → IsForThisNode old event → NodeEvent old event sends marks new
     → All (IsSend old.me old.nodes (name_of_event event)) sends)
-    (stays : (old new : NodeState) (event : Event) (sends : List Message) (marks : List Mark) → NodeEvent old event sends marks new → (new.me ≡ old.me) × (new.nodes ≡ old.nodes) × (new.start ≡ old.start)) where
+    (stays : (old new : NodeState) (event : Event) (sends : List Message) (marks : List Mark) → NodeEvent old event sends marks new → (new.me ≡ old.me) × (new.nodes ≡ old.nodes) × (old.start ≤ new.start)) where
   sent_by_node : (postings : List Posting) (old new : NodeState) → IsConsistentNode old → AreForThisNode old (map happening_of postings) → NodeEvents old (map happening_of postings) new
       → All (λ f. from_of f.message ≡ old.me) (frames_of postings)
   sent_by_node [] old new consistent for events = All-nil _

@@ -17,7 +17,7 @@ use Rattle.ra_world.specs.declared.step.Step.TheVariants.{Lose}
 use Rattle.ra_world.specs.Traffic.{Move, lost_in, lost_by, repeated_in, repeated_by}
 use Rattle.ra_world.specs.Run.{IsRun, events_at, happened_at}
 use Rattle.ra_book.specs.declared.book.event.BookKind.{BookKind}
-use Rattle.ra_book.specs.declared.book.event.BookKind.TheVariants.{Asked, Gave, Got}
+use Rattle.ra_book.specs.declared.book.event.BookKind.TheVariants.{Asked, Gave, Cancelled, Got, Forgot}
 use Rattle.ra_book.specs.declared.book.event.BookEvent.{BookEvent}
 use Rattle.ra_book.specs.History.{happening_of, node_event}
 use Rattle.ra_book.specs.Book.{BookState, nothing_taken}
@@ -55,6 +55,8 @@ lost_by_losses (m ∷ ms) = ap (λ (xs : List Message). m ∷ xs) (lost_by_losse
 pub lost_in_event : (i : ℕ) (kind : BookKind) → lost_in (step_at i kind) ≡ []
 lost_in_event i (Asked client name mode) = refl
 lost_in_event i (Gave client name) = refl
+lost_in_event i (Cancelled client name) = refl
+lost_in_event i Forgot = refl
 lost_in_event i (Got frame) = refl
 
 pub nothing_lost : (placed : List Placed) → flat_map lost_in (steps_of placed) ≡ []
@@ -70,6 +72,8 @@ repeated_by_steps (m ∷ moves) = ap (λ (ms : List Message). repeated_in m.step
 pub repeated_in_event : (i : ℕ) (kind : BookKind) → repeated_in (step_at i kind) ≡ []
 repeated_in_event i (Asked client name mode) = refl
 repeated_in_event i (Gave client name) = refl
+repeated_in_event i (Cancelled client name) = refl
+repeated_in_event i Forgot = refl
 repeated_in_event i (Got frame) = refl
 
 by_events : (placed : List Placed) → flat_map repeated_in (steps_of placed) ≡ []
@@ -94,11 +98,15 @@ nothing_repeated moves placed ms steps = repeated_by_steps moves ∙ ap (flat_ma
 abbrev pub IsAddressed : ℕ → BookKind → Type 0
 IsAddressed i (Asked client name mode) = Unit {0}
 IsAddressed i (Gave client name) = Unit {0}
+IsAddressed i (Cancelled client name) = Unit {0}
+IsAddressed i Forgot = Unit {0}
 IsAddressed i (Got frame) = to_of frame.message ≡ i
 
 pub one_event : (i node : ℕ) (kind : BookKind) → IsAddressed node kind → events_at i (step_at node kind) ≡ cond (eqb node i) (node_event kind ∷ []) []
 one_event i node (Asked client name mode) h = refl
 one_event i node (Gave client name) h = refl
+one_event i node (Cancelled client name) h = refl
+one_event i node Forgot h = refl
 one_event i node (Got frame) h = ap (λ (n : ℕ). cond (eqb n i) (Received frame.message ∷ []) []) h
 
 pub projected : (i : ℕ) (placed : List Placed) → All (λ p. IsAddressed p.node p.event.kind) placed → flat_map (events_at i) (steps_of placed) ≡ map (λ e. node_event e.kind) (events_of i placed)
@@ -129,6 +137,8 @@ for_this_node b history =
 addressed : (b : BookState) (kind : BookKind) → IsForThisNode (opening_node b.me b.nodes b.start) (node_event kind) → IsAddressed b.me kind
 addressed b (Asked client name mode) h = tt
 addressed b (Gave client name) h = tt
+addressed b (Cancelled client name) h = tt
+addressed b Forgot h = tt
 addressed b (Got frame) h = h.to
 
 -- what is in the order is among the events of its node

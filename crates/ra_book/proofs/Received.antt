@@ -9,7 +9,7 @@ use Rattle.std.proofs.lemmas.List.Concat.{flat_map-append}
 use Rattle.ra_stamp.specs.declared.message.Message.{Message}
 use Rattle.ra_frame.specs.declared.frame.Frame.{Frame}
 use Rattle.ra_book.specs.declared.book.event.BookKind.{BookKind}
-use Rattle.ra_book.specs.declared.book.event.BookKind.TheVariants.{Asked, Gave, Got}
+use Rattle.ra_book.specs.declared.book.event.BookKind.TheVariants.{Asked, Gave, Cancelled, Got, Forgot}
 use Rattle.ra_book.specs.declared.book.event.BookEvent.{BookEvent}
 use Rattle.ra_book.specs.Keys.{OrderKey, HasEach, message_key, messages_among}
 use Rattle.ra_book.specs.Book.{BookState}
@@ -40,6 +40,8 @@ all_received_split books i b within at = ap all_received (split books i b within
 pub nothing_in : (kind : BookKind) → ((frame : Frame) → kind ≡ Got frame → ⊥) → frames_in kind ≡ []
 nothing_in (Asked client name mode) none = refl
 nothing_in (Gave client name) none = refl
+nothing_in (Cancelled client name) none = refl
+nothing_in Forgot none = refl
 nothing_in (Got frame) none = absurd (none frame refl)
 
 -- all of them, with those of one more event

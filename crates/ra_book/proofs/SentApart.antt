@@ -5,9 +5,9 @@ use Rattle.std.proofs.lemmas.List.Elements.{All-contains, Contains-get_or, Conta
 use Rattle.ra_stamp.specs.declared.message.Message.{Message}
 use Rattle.ra_stamp.specs.Message.{to_of}
 use Rattle.ra_node.specs.Events.{Event, Happening}
-use Rattle.ra_node.specs.Events.Event.{Ask as AskedFor, Leave as GivenBack, Receive as Received}
+use Rattle.ra_node.specs.Events.Event.{Ask as AskedFor, Leave as GivenBack, Cancel as GivenUp, Receive as Received, Forget as Forgot}
 use Rattle.ra_world.specs.declared.step.Step.{Step}
-use Rattle.ra_world.specs.declared.step.Step.TheVariants.{Ask, Leave, Deliver, Lose, Repeat}
+use Rattle.ra_world.specs.declared.step.Step.TheVariants.{Ask, Leave, Cancel, Deliver, Lose, Repeat, Forget}
 use Rattle.ra_world.specs.Traffic.{Move, sent_by}
 use Rattle.ra_world.specs.Run.{events_at, happened_at}
 use Rattle.ra_world.specs.Fitting.{sent_in}
@@ -24,6 +24,8 @@ one_at_most i step = at step
     at : (s : Step) → (events_at i s ≡ []) ⊎ ((event : Event) × (events_at i s ≡ event ∷ []))
     at (Ask node client name mode) = by_test (eqb node i) (AskedFor client name mode)
     at (Leave node client name) = by_test (eqb node i) (GivenBack client name)
+    at (Cancel node client name) = by_test (eqb node i) (GivenUp client name)
+    at (Forget node) = by_test (eqb node i) Forgot
     at (Deliver message) = by_test (eqb (to_of message) i) (Received message)
     at (Lose message) = inl refl
     at (Repeat message) = inl refl

@@ -35,7 +35,7 @@ pub record GrantLaws : Type 0 where
   pub keeps : (old new : NodeState) (event : Event) (sends : List Message) (marks : List Mark) → IsConsistentNode old → IsForThisNode old event → NodeEvent old event sends marks new → IsConsistentNode new
   pub makes : (old new : NodeState) (event : Event) (sends : List Message) (marks : List Mark) → IsConsistentNode old → IsForThisNode old event → NodeEvent old event sends marks new
       → All (IsMark old.me (name_of_event event)) marks
-  pub stays : (old new : NodeState) (event : Event) (sends : List Message) (marks : List Mark) → NodeEvent old event sends marks new → (new.me ≡ old.me) × (new.nodes ≡ old.nodes) × (new.start ≡ old.start)
+  pub stays : (old new : NodeState) (event : Event) (sends : List Message) (marks : List Mark) → NodeEvent old event sends marks new → (new.me ≡ old.me) × (new.nodes ≡ old.nodes) × (old.start ≤ new.start)
   pub one_history : (me n start : ℕ) (events : List BookEvent) (sent sent' : List Sent) (a b : NodeState)
       → (left : IsHistory me n start events sent a) → (right : IsHistory me n start events sent' b) → left.postings ≡ right.postings
 

@@ -10,7 +10,7 @@ use Rattle.ra_node.specs.Events.{Event, Happening, IsForThisNode, NodeEvent, Nod
 use Rattle.ra_node.proofs.Chains.{history_same_node}
 use Rattle.ra_book.specs.declared.book.event.BookEvent.{BookEvent}
 use Rattle.ra_book.specs.declared.book.event.BookKind.{BookKind}
-use Rattle.ra_book.specs.declared.book.event.BookKind.TheVariants.{Asked, Gave, Got}
+use Rattle.ra_book.specs.declared.book.event.BookKind.TheVariants.{Asked, Gave, Cancelled, Got, Forgot}
 use Rattle.ra_book.specs.declared.book.sent.Sent.{Sent}
 use Rattle.ra_book.specs.History.{AreClocked, IsHistory, Posting, clock_from, clock_of, frames_of, happening_of, node_event}
 use Rattle.ra_book.specs.Book.{as_sent}
@@ -19,13 +19,15 @@ use Rattle.ra_book.proofs.Histories.{frames_as_sent}
 
 -- an event leaves a node the one that it is
 same_node : (old new : NodeState) (event : Event) (sends : List Message) (marks : List Mark) → NodeEvent old event sends marks new
-    → (new.me ≡ old.me) × (new.nodes ≡ old.nodes) × (new.start ≡ old.start)
+    → (new.me ≡ old.me) × (new.nodes ≡ old.nodes) × (old.start ≤ new.start)
 same_node old new event sends marks h = history_same_node (record { event = event; sends = sends; marks = marks } ∷ []) old new (new, h, refl)
 
 -- an event for a node is one for each state of it
 for_it : (a b : NodeState) (kind : BookKind) → a.me ≡ b.me → a.nodes ≡ b.nodes → IsForThisNode a (node_event kind) → IsForThisNode b (node_event kind)
 for_it a b (Asked client name mode) me nodes h = tt
 for_it a b (Gave client name) me nodes h = tt
+for_it a b (Cancelled client name) me nodes h = tt
+for_it a b Forgot me nodes h = tt
 for_it a b (Got frame) me nodes h =
     subst (λ (k : ℕ). IsForNode k b.nodes frame.message) me (subst (λ (k : ℕ). IsForNode a.me k frame.message) nodes h)
 

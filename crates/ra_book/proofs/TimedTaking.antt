@@ -1,5 +1,5 @@
 -- An event at a node and its clock.
-use Rattle.std.proofs.Common.{◌≡◌, ◌⊎◌, ◌↔◌, ℕ, ◌≤◌, ◌^◌, inl, inr, List, Result, Ok, Err, refl, sym, subst, ◌∙◌, arith}
+use Rattle.std.proofs.Common.{◌≡◌, ◌⊎◌, ◌↔◌, ℕ, ◌≤◌, ◌^◌, inl, inr, List, [], Result, Ok, Err, refl, sym, subst, ◌∙◌, arith}
 use Rattle.std.specs.Prelude.{IsErrAnd, IsErrOf, IsOkUnless, MatchResult}
 use Rattle.ra_stamp.specs.declared.entry.Mark.{Mark}
 use Rattle.ra_stamp.specs.declared.message.Message.{Message}
@@ -12,23 +12,25 @@ use Rattle.ra_automaton.specs.declared.error.ReceiveError.TheVariants as receive
 use Rattle.ra_frame.specs.declared.frame.Frame.{Frame}
 use Rattle.ra_node.specs.declared.error.AskError.{AskError}
 use Rattle.ra_node.specs.declared.error.AskError.TheVariants as ask
+use Rattle.ra_node.specs.declared.error.CancelError.{CancelError}
+use Rattle.ra_node.specs.declared.error.CancelError.TheVariants as cancel
 use Rattle.ra_node.specs.declared.error.LeaveError.{LeaveError}
 use Rattle.ra_node.specs.declared.error.LeaveError.TheVariants as leave
 use Rattle.ra_node.specs.declared.outcome.Outcome.{Outcome}
-use Rattle.ra_node.specs.Calls.{AnswersLeave}
+use Rattle.ra_node.specs.Calls.{AnswersLeave, AnswersCancel}
 use Rattle.ra_node.specs.Faults.{IsAskRefusal}
 use Rattle.ra_node.specs.Turns.{MayAsk}
 use Rattle.ra_node.specs.Node.{NodeState, IsConsistentNode, resource_at}
-use Rattle.ra_node.specs.Events.{NodeEvent, IsForThisNode}
+use Rattle.ra_node.specs.Events.{ForgetEvent, NodeEvent, IsForThisNode}
 use Rattle.ra_node.specs.Events.Event.{Receive}
 use Rattle.ra_node.proofs.EventsKept.{event_sends, event_numbers}
 use Rattle.ra_book.specs.declared.error.BookError.{BookError}
 use Rattle.ra_book.specs.declared.error.BookError.TheVariants.{Memory}
 use Rattle.ra_book.specs.declared.book.event.BookKind.{BookKind}
-use Rattle.ra_book.specs.declared.book.event.BookKind.TheVariants.{Asked, Gave, Got}
+use Rattle.ra_book.specs.declared.book.event.BookKind.TheVariants.{Asked, Gave, Cancelled, Got, Forgot}
 use Rattle.ra_book.specs.EventChecks.{MayTake, NodeRefuses}
 use Rattle.ra_book.specs.History.{node_event, clock_after}
-use Rattle.ra_book.specs.Refused.{refusal_of_ask, refusal_of_leave, refusal_of_receive}
+use Rattle.ra_book.specs.Refused.{refusal_of_ask, refusal_of_leave, refusal_of_cancel, refusal_of_receive}
 use Rattle.ra_book.specs.Timed.{Timed, Takes, CanCome, FitAt, Refuses}
 
 -- ---- An event that does not happen
@@ -50,6 +52,11 @@ left : (node new : NodeState) (client : ℕ) (name : List ℕ) (e : LeaveError) 
 left node new client name leave.NotHeld answers = inl (refl, answers.not_held.0 refl)
 left node new client name leave.Memory answers = inr (refl, answers.allowed.0 refl)
 
+cancelled : (node new : NodeState) (client : ℕ) (name : List ℕ) (e : CancelError) → AnswersCancel node client name (Err e) new
+    → Denies node (Cancelled client name) (refusal_of_cancel e)
+cancelled node new client name cancel.NotWaiting answers = inl (refl, answers.not_waiting.0 refl)
+cancelled node new client name cancel.Memory answers = inr (refl, answers.allowed.0 refl)
+
 received : (node : NodeState) (frame : Frame) (e : ReceiveError) → ChecksAddress {T = Outcome} node.me node.nodes frame.message (Err e)
     → IsOkUnless {T = Outcome} (Err e) receive.Memory ↔ IsForNode node.me node.nodes frame.message → Denies node (Got frame) (refusal_of_receive e)
 received node frame receive.WrongNode address allowed = inl (inl (refl, address.wrong_node.0 refl))
@@ -68,6 +75,10 @@ module _ (node : NodeState) (kind : BookKind) where
   pub leave_denied : (new : NodeState) (client : ℕ) (name : List ℕ) → kind ≡ Gave client name → (e : LeaveError) → AnswersLeave node client name (Err e) new
       → Denies node kind (refusal_of_leave e)
   leave_denied new client name is e answers = subst (λ (k : BookKind). Denies node k (refusal_of_leave e)) (sym is) (left node new client name e answers)
+
+  pub cancel_denied : (new : NodeState) (client : ℕ) (name : List ℕ) → kind ≡ Cancelled client name → (e : CancelError) → AnswersCancel node client name (Err e) new
+      → Denies node kind (refusal_of_cancel e)
+  cancel_denied new client name is e answers = subst (λ (k : BookKind). Denies node k (refusal_of_cancel e)) (sym is) (cancelled node new client name e answers)
 
   pub receive_denied : (frame : Frame) → kind ≡ Got frame → (e : ReceiveError) → ChecksAddress {T = Outcome} node.me node.nodes frame.message (Err e)
       → IsOkUnless {T = Outcome} (Err e) receive.Memory ↔ IsForNode node.me node.nodes frame.message → Denies node kind (refusal_of_receive e)
@@ -122,12 +133,19 @@ taken_by old kind at_kind outcome at_outcome new at_new k o n for_it event =
       event = subst (NodeEvent old (node_event kind) outcome.sends.items outcome.marks.items) (sym n) by_outcome;
     }
 
+-- to forget sends and marks nothing, so it is the same event with lists that are empty
+pub forgets_as : (old new : NodeState) (sends : List Message) (marks : List Mark) → sends ≡ [] → marks ≡ [] → ForgetEvent old [] [] new → ForgetEvent old sends marks new
+forgets_as old new sends marks none nothing event =
+    subst (λ (ms : List Message). ForgetEvent old ms marks new) (sym none) (subst (λ (ms : List Mark). ForgetEvent old [] ms new) (sym nothing) event)
+
 -- ---- What is sent fits
 
 -- a frame that comes has a number
 numbered_by : (kind : BookKind) (message : Message) → CanCome kind → node_event kind ≡ Receive message → 1 ≤ seq_of message
 numbered_by (Asked client name mode) message fits is = absurd (cc)
 numbered_by (Gave client name) message fits is = absurd (cc)
+numbered_by (Cancelled client name) message fits is = absurd (cc)
+numbered_by Forgot message fits is = absurd (cc)
 numbered_by (Got frame) message fits is =
     let same : frame.message ≡ message = cc in
     subst (λ (m : Message). 1 ≤ seq_of m) same fits.seq
@@ -135,6 +153,8 @@ numbered_by (Got frame) message fits is =
 clock_rises : (clock : ℕ) (kind : BookKind) → 1 ≤ clock_after clock kind
 clock_rises clock (Asked client name mode) = omega arith
 clock_rises clock (Gave client name) = omega arith
+clock_rises clock (Cancelled client name) = omega arith
+clock_rises clock Forgot = omega arith
 clock_rises clock (Got frame) = omega arith
 
 -- what is sent fits

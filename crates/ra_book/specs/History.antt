@@ -5,9 +5,9 @@ use Rattle.ra_stamp.specs.declared.message.Message.{Message}
 use Rattle.ra_frame.specs.declared.frame.Frame.{Frame}
 use Rattle.ra_node.specs.Node.{NodeState, opening_node}
 use Rattle.ra_node.specs.Events.{Event, Happening, NodeEvents, AreForThisNode}
-use Rattle.ra_node.specs.Events.Event.{Ask, Leave, Receive}
+use Rattle.ra_node.specs.Events.Event.{Ask, Leave, Cancel, Receive, Forget}
 use Rattle.ra_book.specs.declared.book.event.BookKind.{BookKind}
-use Rattle.ra_book.specs.declared.book.event.BookKind.TheVariants.{Asked, Gave, Got}
+use Rattle.ra_book.specs.declared.book.event.BookKind.TheVariants.{Asked, Gave, Cancelled, Got, Forgot}
 use Rattle.ra_book.specs.declared.book.event.BookEvent.{BookEvent}
 use Rattle.ra_book.specs.declared.book.sent.Sent.{Sent}
 
@@ -15,7 +15,9 @@ use Rattle.ra_book.specs.declared.book.sent.Sent.{Sent}
 abbrev pub node_event : BookKind → Event
 node_event (Asked client name mode) = Ask client name mode
 node_event (Gave client name) = Leave client name
+node_event (Cancelled client name) = Cancel client name
 node_event (Got frame) = Receive frame.message
+node_event Forgot = Forget
 
 -- ---- The clock
 
@@ -24,7 +26,9 @@ node_event (Got frame) = Receive frame.message
 abbrev pub clock_after : ℕ → BookKind → ℕ
 clock_after clock (Asked client name mode) = clock + 1
 clock_after clock (Gave client name) = clock + 1
+clock_after clock (Cancelled client name) = clock + 1
 clock_after clock (Got frame) = max clock frame.clock + 1
+clock_after clock Forgot = clock + 1
 
 -- after this clock each event has the clock that follows the one before it, and no clock is above 2^62
 abbrev pub AreClocked : ℕ → List BookEvent → Type 0

@@ -15,19 +15,19 @@ use Rattle.ra_frame.specs.Fits.{Fits}
 use Rattle.ra_frame.specs.FrameText.{IsFrameText}
 use Rattle.ra_automaton.specs.State.{IsForNode}
 use Rattle.ra_automaton.specs.Steps.{greatest_number}
-use Rattle.ra_node.specs.Resource.{Holds, IsBusy}
+use Rattle.ra_node.specs.Resource.{Holds, IsKeptWaiting, IsBusy}
 use Rattle.ra_node.specs.Turns.{MayAsk}
 use Rattle.ra_node.specs.Node.{NodeState, opening_node, resource_at, IsConsistentNode}
 use Rattle.ra_node.specs.Events.{NodeEvent, IsForThisNode}
 use Rattle.ra_book.specs.declared.book.Book.TheInside.{Inside}
 use Rattle.ra_book.specs.declared.error.BookError.{BookError}
 use Rattle.ra_book.specs.declared.error.BookError.TheVariants as error
-use Rattle.ra_book.specs.declared.error.BookError.TheVariants.{Failed, Busy, Exhausted, NotHeld, WrongNode, Stranger, ClockFull, Memory}
+use Rattle.ra_book.specs.declared.error.BookError.TheVariants.{Failed, Busy, Exhausted, NotHeld, NotWaiting, WrongNode, Stranger, ClockFull, Memory}
 use Rattle.ra_book.specs.declared.error.MarkLostError.{MarkLostError}
 use Rattle.ra_book.specs.declared.error.MarkLostError.TheVariants.{NotSent, AlreadyLost}
 use Rattle.ra_book.specs.declared.book.event.BookEvent.{BookEvent}
 use Rattle.ra_book.specs.declared.book.event.BookKind.{BookKind}
-use Rattle.ra_book.specs.declared.book.event.BookKind.TheVariants.{Asked, Gave, Got}
+use Rattle.ra_book.specs.declared.book.event.BookKind.TheVariants.{Asked, Gave, Cancelled, Got, Forgot}
 use Rattle.ra_book.specs.declared.book.event_effect.Posted.{Posted}
 use Rattle.ra_book.specs.declared.book.sent.Sent.{Sent}
 use Rattle.ra_book.specs.History.{node_event, clock_after, frames_at}
@@ -65,7 +65,9 @@ pub record IsKept (b : Inside) : Type 0 where
 abbrev pub IsForThisBook : BookState → BookKind → Type 0
 IsForThisBook book (Asked client name mode) = Unit {0}
 IsForThisBook book (Gave client name) = Unit {0}
+IsForThisBook book (Cancelled client name) = Unit {0}
 IsForThisBook book (Got frame) = IsForNode book.me book.nodes frame.message × Fits frame
+IsForThisBook book Forgot = Unit {0}
 
 -- an event of this kind comes next at a book: a clock is left for it, and this is that clock
 pub record ComesNext (book : BookState) (clock : ℕ) (kind : BookKind) : Type 0 where
@@ -82,7 +84,9 @@ answers_to (Reply from to name seq) = 0
 abbrev pub sends_by : ℕ → BookKind → ℕ
 sends_by nodes (Asked client name mode) = nodes
 sends_by nodes (Gave client name) = 2 * nodes
+sends_by nodes (Cancelled client name) = 2 * nodes
 sends_by nodes (Got frame) = answers_to frame.message
+sends_by nodes Forgot = 0
 
 -- the event happened at the node, follows the events so far, and its frames follow those so far
 pub record Happens (old new : NodeState) (events events' : List BookEvent) (sent sent' : List Sent) (event : BookEvent)
@@ -137,6 +141,20 @@ pub record AnswersLeave {T : Type 0} (book : BookState) (client : ℕ) (name : L
 abbrev pub RefusesLeave : BookState → ℕ → List ℕ → BookError → Type 0
 RefusesLeave book client name refused = AnswersLeave {T = Posted} book client name (Err refused)
 
+-- a cancel is answered as `Book::cancel` says
+pub record AnswersCancel {T : Type 0} (book : BookState) (client : ℕ) (name : List ℕ) (answer : Result T BookError) : Type 0 where
+  pub failed : IsErrOf answer Failed ↔ IsSome book.fault
+  pub not_waiting : IsErrOf answer NotWaiting
+      ↔ Runs book (λ node. IsKeptWaiting (resource_at node name) client → ⊥)
+  pub clock_full : IsErrOf answer ClockFull
+      ↔ Runs book (λ node. IsKeptWaiting (resource_at node name) client × (HasClock book (Cancelled client name) → ⊥))
+  pub allowed : IsOkUnless answer Memory
+      ↔ Runs book (λ node. IsKeptWaiting (resource_at node name) client × HasClock book (Cancelled client name))
+
+-- a cancel is refused for this cause, as `Book::cancel` says
+abbrev pub RefusesCancel : BookState → ℕ → List ℕ → BookError → Type 0
+RefusesCancel book client name refused = AnswersCancel {T = Posted} book client name (Err refused)
+
 -- bytes that come are answered as `Book::receive` says
 pub record AnswersReceive {T : Type 0} (book : BookState) (bytes : List ℕ) (answer : Result T BookError) : Type 0 where
   pub failed : IsErrOf answer Failed ↔ IsSome book.fault
@@ -177,6 +195,7 @@ NotAccepted me nodes clock bytes Failed = ⊥
 NotAccepted me nodes clock bytes Busy = ⊥
 NotAccepted me nodes clock bytes Exhausted = ⊥
 NotAccepted me nodes clock bytes NotHeld = ⊥
+NotAccepted me nodes clock bytes NotWaiting = ⊥
 NotAccepted me nodes clock bytes Memory = ⊥
 
 -- bytes are accepted at this one of this many nodes, after this clock, as a frame for it with the clock after it; or they

@@ -6,7 +6,7 @@ use Rattle.ra_stamp.specs.declared.mode.Mode.{Mode}
 use Rattle.ra_stamp.specs.declared.mode.Mode.TheVariants.{Shared, Exclusive, IntentShared, IntentExclusive, SharedIntentExclusive}
 use Rattle.ra_stamp.specs.declared.entry.Entry.{Entry}
 use Rattle.ra_stamp.specs.declared.entry.Mark.{Mark}
-use Rattle.ra_stamp.specs.declared.entry.Mark.TheVariants.{Requested, Entered, Left}
+use Rattle.ra_stamp.specs.declared.entry.Mark.TheVariants.{Requested, Entered, Left, Withdrawn}
 use Rattle.ra_stamp.specs.declared.message.Message.{Message}
 use Rattle.ra_stamp.specs.declared.message.Message.TheVariants.{Request, Reply}
 use Rattle.ra_frame.specs.declared.frame.Frame.{Frame}
@@ -53,6 +53,7 @@ entered_in [] = []
 entered_in (Requested entry ∷ marks) = entered_in marks
 entered_in (Entered entry ∷ marks) = entry ∷ entered_in marks
 entered_in (Left entry ∷ marks) = entered_in marks
+entered_in (Withdrawn entry ∷ marks) = entered_in marks
 
 -- the messages that came in these events, in order
 abbrev pub messages_among : List BookEvent → List Message

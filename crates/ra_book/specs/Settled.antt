@@ -10,11 +10,11 @@ use Rattle.ra_stamp.specs.Message.{from_of}
 use Rattle.ra_frame.specs.declared.frame.Frame.{Frame}
 use Rattle.ra_node.specs.Node.{NodeState}
 use Rattle.ra_world.specs.declared.step.Step.{Step}
-use Rattle.ra_world.specs.declared.step.Step.TheVariants.{Ask, Leave, Deliver, Lose}
+use Rattle.ra_world.specs.declared.step.Step.TheVariants.{Ask, Leave, Cancel, Deliver, Lose, Forget}
 use Rattle.ra_world.specs.Traffic.{Move, lost_by, repeated_by}
 use Rattle.ra_world.specs.Run.{IsRun, happened_at}
 use Rattle.ra_book.specs.declared.book.event.BookKind.{BookKind}
-use Rattle.ra_book.specs.declared.book.event.BookKind.TheVariants.{Asked, Gave, Got}
+use Rattle.ra_book.specs.declared.book.event.BookKind.TheVariants.{Asked, Gave, Cancelled, Got, Forgot}
 use Rattle.ra_book.specs.declared.book.event.BookEvent.{BookEvent}
 use Rattle.ra_book.specs.declared.book.sent.Sent.{Sent}
 use Rattle.ra_book.specs.History.{Posting, node_event}
@@ -64,7 +64,9 @@ pub record IsSettledOrder (books : List BookState) (placed : List Placed) : Type
 abbrev pub step_at : ℕ → BookKind → Step
 step_at node (Asked client name mode) = Ask node client name mode
 step_at node (Gave client name) = Leave node client name
+step_at node (Cancelled client name) = Cancel node client name
 step_at node (Got frame) = Deliver frame.message
+step_at node Forgot = Forget node
 
 -- the steps of the cluster that these events are, in order
 abbrev pub steps_of : List Placed → List Step
@@ -120,7 +122,9 @@ pub record Repeats {X : Type 0} (xs : List X) : Type 0 where
 abbrev pub frames_in : BookKind → List Frame
 frames_in (Asked client name mode) = []
 frames_in (Gave client name) = []
+frames_in (Cancelled client name) = []
 frames_in (Got frame) = frame ∷ []
+frames_in Forgot = []
 
 -- the frames that came in these events, in order
 abbrev pub received_among : List BookEvent → List Frame

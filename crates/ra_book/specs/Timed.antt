@@ -8,7 +8,7 @@ use Rattle.ra_node.specs.Node.{NodeState, opening_node, IsConsistentNode}
 use Rattle.ra_node.specs.Events.{NodeEvent, IsForThisNode}
 use Rattle.ra_book.specs.History.{Posting, node_event, clock_after}
 use Rattle.ra_book.specs.declared.book.event.BookKind.{BookKind}
-use Rattle.ra_book.specs.declared.book.event.BookKind.TheVariants.{Asked, Gave, Got}
+use Rattle.ra_book.specs.declared.book.event.BookKind.TheVariants.{Asked, Gave, Cancelled, Got, Forgot}
 use Rattle.ra_book.specs.declared.error.BookError.{BookError}
 use Rattle.ra_book.specs.EventChecks.{IsRefusedAfter}
 use Rattle.ra_book.specs.declared.timed_node.TimedNode.TheInside.{Inside}
@@ -51,7 +51,9 @@ TakesEach old (p ∷ postings) new =
 abbrev pub CanCome : BookKind → Type 0
 CanCome (Asked client name mode) = Unit {0}
 CanCome (Gave client name) = Unit {0}
+CanCome (Cancelled client name) = Unit {0}
 CanCome (Got frame) = Fits frame
+CanCome Forgot = Unit {0}
 
 -- the messages fit into frames with this clock
 abbrev pub FitAt : ℕ → List Message → Type 0

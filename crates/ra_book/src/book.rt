@@ -10,7 +10,7 @@ pub mod sent;
 pub mod stop;
 pub mod taken;
 
-ghost use Rattle.std.specs.Prelude.{◌≡◌, ◌≢◌, ◌<◌, ◌≤◌, ◌⊎◌, ◌↔◌, ◌^◌, All, Contains, length, slice_get, unwrap_or, IsErrOf, IsOk, IsOkUnless, IsSome, IfErr, IfOk, IfSome, OnErr, OnOk, IsTrue, true, false};
+ghost use Rattle.std.specs.Prelude.{◌≡◌, ◌≢◌, ◌<◌, ◌≤◌, ◌⊎◌, ◌↔◌, ◌^◌, All, Contains, length, slice_get, unwrap_or, None, [], IsErrOf, IsOk, IsOkUnless, IsSome, IfErr, IfOk, IfSome, OnErr, OnOk, IsTrue, true, false};
 ghost use Rattle.ra_stamp.specs.declared.entry.Entry.{Entry};
 ghost use Rattle.ra_frame.specs.declared.error.FrameError.{FrameError};
 ghost use Rattle.ra_node.specs.Resource.{Holds};
@@ -30,12 +30,12 @@ use std::alloc::Global;
 use std::marker::Model;
 use std::mem;
 
-/// The book of a node: the node, its events with their clocks, the frames that it sent, each with a flag whether it was lost,
-/// and its fault, if it has one. Contracts see all of it but the node, which the events decide: a book is at all times the
-/// history of its node.
+/// The book of a node: the node, its events with their clocks, the frames that it sent, each with a flag whether it
+/// was lost, and its fault, if it has one. Contracts see all of it but the node, which the events decide: a book is
+/// at all times the history of its node.
 ///
-/// A book keeps its events and the frames that it sent, until a round of an audit takes them: the calls that read or flag
-/// them see those that are left. Each of `ask`, `leave` and `receive` costs what the call of the node
+/// A book keeps its events and the frames that it sent, until a round of an audit takes them: the calls that read or
+/// flag them see those that are left. Each of `ask`, `leave`, `cancel` and `receive` costs what the call of the node
 /// costs, plus amortized time linear in the number of nodes.
 pub struct Book {
     me: NodeId,
@@ -47,8 +47,8 @@ pub struct Book {
     events: Events,
     /// In order of sending, those after the ones that were taken.
     sent: Vec<Sent>,
-    /// What the leaves of the clients that wait, are queued or hold will need. For each there is room among the events and
-    /// the sent frames.
+    /// What the leaves or cancels of the clients that wait, are queued or hold will need. For each there is room
+    /// among the events and the sent frames.
     departures: Vec<Departure>,
     fault: Option<Stop>,
 }
@@ -89,15 +89,16 @@ impl Book {
     ghost use Rattle.ra_frame.specs.Fits.{Fits};
     ghost use Rattle.ra_frame.specs.FrameText.{IsFrameText};
     ghost use Rattle.ra_frame.specs.Faults.{first_fault};
-    ghost use Rattle.ra_node.specs.Resource.{IsBusy, holder_of};
+    ghost use Rattle.ra_node.specs.Resource.{IsKeptWaiting, IsBusy, holder_of};
     ghost use Rattle.ra_node.specs.Turns.{MayAsk};
     ghost use Rattle.ra_node.specs.Node.{NodeState};
     ghost use Rattle.ra_book.specs.History.{clock_of};
     ghost use Rattle.ra_book.specs.Book.{opening_book, whole_events, with_all_taken, IsWhole, LeadsTo, HasHistory, HasClock, Adds, Runs, ReadsFrame, IsFirst, Loses};
-    ghost use Rattle.ra_book.specs.Keeping.{HasNextClock, IsChecked, RefusesAsk, RefusesLeave, RefusesReceive, IsRead};
+    ghost use Rattle.ra_book.specs.Keeping.{HasNextClock, IsChecked, RefusesAsk, RefusesLeave, RefusesCancel, RefusesReceive, IsRead};
 
-    /// Makes the book of node `me` of `nodes`, in which nothing has happened yet. The highest number of each resource begins
-    /// at `start`, 0 to 2^64-1, which is to be the same at all nodes. It does not allocate until the first event comes.
+    /// Makes the book of node `me` of `nodes`, in which nothing has happened yet. The highest number of each resource
+    /// begins at `start`, 0 to 2^64-1, which is to be the same at all nodes. It does not allocate until the first
+    /// event comes.
     ///
     /// # Errors
     ///
@@ -135,8 +136,9 @@ impl Book {
         }
     }
 
-    /// A client of the node asks for a name. The clock is one more than before, and the frames and marks are those of the
-    /// node's event, as [`Node::ask`] says. Room is made for the client's leave, too: some 400 bytes for each node of the cluster.
+    /// A client of the node asks for a name. The clock is one more than before, and the frames and marks are those of
+    /// the node's event, as [`Node::ask`] says. Room is made for the client's leave or cancel, too: some 400 bytes
+    /// for each node of the cluster.
     ///
     /// # Errors
     ///
@@ -194,8 +196,8 @@ impl Book {
         Ok(keep(&mut self.events, &mut self.sent, frames, event, outcome))
     }
 
-    /// The client that holds a name leaves it. The clock is one more than before, and the frames and marks are those of the
-    /// node's event, as [`Node::leave`] says. It does not allocate: the client's ask made room for it.
+    /// The client that holds a name leaves it. The clock is one more than before, and the frames and marks are those
+    /// of the node's event, as [`Node::leave`] says. It does not allocate: the client's ask made room for it.
     ///
     /// # Errors
     ///
@@ -239,6 +241,90 @@ impl Book {
         let kind = BookKind::Gave { client, name };
         let event = BookEvent { clock, kind };
         Ok(keep(&mut self.events, &mut self.sent, frames, event, outcome))
+    }
+
+    /// A client that waits or is queued for a name gives it up. The clock is one more than before, and the frames and
+    /// marks are those of the node's event, as [`Node::cancel`] says. It does not allocate: the client's ask made
+    /// room for it.
+    ///
+    /// # Errors
+    ///
+    /// The first that holds, and the book is as before:
+    ///
+    /// 1. `Failed`: the book has a fault.
+    /// 2. `NotWaiting`: the client neither waits nor is queued for the name here.
+    /// 3. `ClockFull`: the clock would pass 2^62.
+    pub fn cancel(&mut self, alloc: Global, client: u32, name: Name) -> Result<Posted, BookError>
+        ensures ok { IfOk result (λ posted. Adds self.old (BookKind.Cancelled client name)
+            posted.frames.items posted.marks.items self.new) }
+        ensures history { HasHistory self.new }
+        ensures fits { IfOk result (λ posted. All Fits posted.frames.items) }
+        ensures failed { IsErrOf result BookError.Failed ↔ IsSome self.old.fault }
+        ensures not_waiting { IsErrOf result BookError.NotWaiting
+            ↔ Runs self.old (λ node. IsKeptWaiting (resource_at node name) client → ⊥) }
+        ensures clock_full { IsErrOf result BookError.ClockFull
+            ↔ Runs self.old (λ node. IsKeptWaiting (resource_at node name) client
+            × (HasClock self.old (BookKind.Cancelled client name) → ⊥)) }
+        // Memory is the one other error, and does not come.
+        ensures no_memory { IsErrOf result BookError.Memory → ⊥ }
+        ensures allowed { IsOkUnless result BookError.Memory
+            ↔ Runs self.old (λ node. IsKeptWaiting (resource_at node name) client
+            × HasClock self.old (BookKind.Cancelled client name)) }
+        ensures err { OnErr result (self.new ≡ self.old) }
+    {
+        let clock = self.check_cancel(client, name)?;
+        let Some(departure) = self.departures.pop() else {
+            // There is a departure for each client that waits or is queued.
+            return Err(BookError::NotWaiting);
+        };
+        let Departure {
+            mut outcome,
+            frames,
+        } = departure;
+        let Ok(()) = self.node.cancel_into(alloc, client, name, &mut outcome) else {
+            // The outcome has room, so the client neither waits nor is queued. The departure is as before.
+            let unused = Departure { outcome, frames };
+            self.departures.push_reserved(unused);
+            return Err(BookError::NotWaiting);
+        };
+        let kind = BookKind::Cancelled { client, name };
+        let event = BookEvent { clock, kind };
+        Ok(keep(&mut self.events, &mut self.sent, frames, event, outcome))
+    }
+
+    /// The node forgets names, as [`Node::forget`] says. The clock is one more than before, and nothing is posted.
+    /// The book keeps its start, which is the first one. It costs what the node's call costs.
+    ///
+    /// # Errors
+    ///
+    /// The first that holds, and the book is as before:
+    ///
+    /// 1. `Failed`: the book has a fault.
+    /// 2. `ClockFull`: the clock would pass 2^62.
+    /// 3. `Memory`: nothing has changed, and the call can be made again.
+    pub fn forget(&mut self, alloc: Global) -> Result<(), BookError>
+        ensures ok { OnOk result (Adds self.old BookKind.Forgot [] [] self.new) }
+        ensures history { HasHistory self.new }
+        ensures failed { IsErrOf result BookError.Failed ↔ IsSome self.old.fault }
+        ensures clock_full { IsErrOf result BookError.ClockFull
+            ↔ ((self.old.fault ≡ None) × (HasClock self.old BookKind.Forgot → ⊥)) }
+        // Memory is the one other error.
+        ensures allowed { IsOkUnless result BookError.Memory
+            ↔ ((self.old.fault ≡ None) × HasClock self.old BookKind.Forgot) }
+        ensures err { OnErr result (self.new ≡ self.old) }
+    {
+        if self.fault.is_some() {
+            return Err(BookError::Failed);
+        }
+        let kind = BookKind::Forgot;
+        let clock = clock_after(self.clock(), &kind)?;
+        let leaves = self.departures.len();
+        let Ok(()) = self.events.reserve(leaves as u64 + 1) else {
+            return Err(BookError::Memory);
+        };
+        self.node.forget();
+        self.events.push(BookEvent { clock, kind }).unwrap();
+        Ok(())
     }
 
     /// The bytes of a frame come, in version 1 or 2. The clock is one more than the greater of the clock before and the
@@ -297,8 +383,8 @@ impl Book {
         Ok(keep(&mut self.events, &mut self.sent, frames, event, outcome))
     }
 
-    /// Flags the sent frame that is equal to this one as lost, or the first of several equal ones. It does not allocate. The
-    /// cost is logarithmic in the number of the sent frames, and linear in the number of nodes.
+    /// Flags the sent frame that is equal to this one as lost, or the first of several equal ones. It does not
+    /// allocate. The cost is logarithmic in the number of the sent frames, and linear in the number of nodes.
     ///
     /// # Errors
     ///
@@ -327,8 +413,8 @@ impl Book {
         is_kept(self.sent.as_slice(), frame)
     }
 
-    /// Gives the book a fault, if it has none. From then on `ask`, `leave` and `receive` answer `Failed`, and frames can still be flagged
-    /// as lost: a thread that stops the nodes does both, in any order. It does not allocate.
+    /// Gives the book a fault, if it has none. From then on each event is answered `Failed`, and frames can still
+    /// be flagged as lost: a thread that stops the nodes does both, in any order. It does not allocate.
     pub fn fail(&mut self, stop: Stop)
         ensures value { self.new ≡ record self.old { fault = Some (unwrap_or self.old.fault stop) } }
         ensures history { HasHistory self.new }
@@ -376,8 +462,8 @@ impl Book {
         self.taken.clock()
     }
 
-    /// Returns whether the book never handed over its events, as [`settle`](crate::settle) requires. It is `false` for a book that a
-    /// round has looked at, even if nothing had happened. It does not allocate.
+    /// Returns whether the book never handed over its events, as [`settle`](crate::settle) requires. It is `false`
+    /// for a book that a round has looked at, even if nothing had happened. It does not allocate.
     pub fn is_whole(&self) -> bool
         ensures value { IsTrue result ↔ IsWhole self.now }
         ensures history { HasHistory self.now }
@@ -401,8 +487,8 @@ impl Book {
         &self.events
     }
 
-    /// Returns the sent frame at this place, counted from 0 in order of sending, with its flag, or `None` past the end. It
-    /// does not allocate.
+    /// Returns the sent frame at this place, counted from 0 in order of sending, with its flag, or `None` past the
+    /// end. It does not allocate.
     pub fn sent(&self, place: u64) -> Option<Sent>
         ensures value { result ≡ slice_get self.now.sent place }
         ensures history { HasHistory self.now }
@@ -418,9 +504,10 @@ impl Book {
         self.sent.len() as u64
     }
 
-    /// Hands over the events and the sent frames that the book still has, and goes on without them. The book keeps the clock of
-    /// the last event, and still has its history by its type. It can't flag these frames any more. Room for what the leaves of
-    /// the node's clients will need is made first, and that is all the cost: it does not grow with the history.
+    /// Hands over the events and the sent frames that the book still has, and goes on without them. The book keeps
+    /// the clock of the last event, and still has its history by its type. It can't flag these frames any more. Room
+    /// for what the leaves of the node's clients will need is made first, and that is all the cost: it does not grow
+    /// with the history.
     ///
     /// # Errors
     ///
@@ -450,7 +537,8 @@ impl Book {
         self.fault
     }
 
-    /// Returns the request that is granted at this node on a name, or `None`, as [`Node::holder`] does. It does not allocate.
+    /// Returns the request that is granted at this node on a name, or `None`, as [`Node::holder`] does. It does not
+    /// allocate.
     pub fn holder(&self, name: &Name) -> Option<Entry>
         ensures value { (node : NodeState) × LeadsTo self.now node
             × (result ≡ holder_of (resource_at node name.now)) }
@@ -459,7 +547,8 @@ impl Book {
         self.node.holder(name)
     }
 
-    /// Returns the clock of an event of this kind that comes next, or `None` if the book has a fault or the clock would pass 2^62.
+    /// Returns the clock of an event of this kind that comes next, or `None` if the book has a fault or the clock
+    /// would pass 2^62.
     fn next_clock(&self, kind: &BookKind) -> Option<u64>
         ensures { IfSome result (HasNextClock self.now kind.now) }
     {
@@ -469,8 +558,8 @@ impl Book {
         clock_after(self.clock(), kind).ok()
     }
 
-    /// Returns why the ask of a client is refused if there is no memory. Each other cause comes before `Memory`, as `ask` says.
-    /// It does not allocate.
+    /// Returns why the ask of a client is refused if there is no memory. Each other cause comes before `Memory`, as
+    /// `ask` says. It does not allocate.
     pub fn ask_refusal(&self, client: u32, name: Name, mode: Mode) -> BookError
         ensures refused { RefusesAsk self.now client name mode result }
         ensures history { HasHistory self.now }
@@ -482,8 +571,8 @@ impl Book {
         event_refusal(&self.node, self.clock(), &kind)
     }
 
-    /// Returns the clock that the leave of a client has if the client holds the name. It looks that up only if no clock is left, since
-    /// `NotHeld` comes before `ClockFull`.
+    /// Returns the clock that the leave of a client has if the client holds the name. It looks that up only if no
+    /// clock is left, since `NotHeld` comes before `ClockFull`.
     ///
     /// # Errors
     ///
@@ -503,8 +592,29 @@ impl Book {
         }
     }
 
-    /// Returns the frame that the bytes are the text of, and the clock that its coming has if the node takes it. It looks at the
-    /// frame's nodes only if no clock is left, since `WrongNode` and `Stranger` come before `ClockFull`.
+    /// Returns the clock that the cancel of a client has if the client waits or is queued for the name. It looks that
+    /// up only if no clock is left, since `NotWaiting` comes before `ClockFull`.
+    ///
+    /// # Errors
+    ///
+    /// Those of `cancel`, except for `Memory`. `NotWaiting` comes only if no clock is left.
+    fn check_cancel(&self, client: u32, name: Name) -> Result<u64, BookError>
+        ensures checked { IsChecked self.now (HasNextClock self.now (BookKind.Cancelled client name)) result }
+        ensures refused { IfErr result (RefusesCancel self.now client name) }
+    {
+        if self.fault.is_some() {
+            return Err(BookError::Failed);
+        }
+        let kind = BookKind::Cancelled { client, name };
+        let latest = self.clock();
+        let Ok(clock) = clock_after(latest, &kind) else {
+            return check_event(&self.node, latest, &kind);
+        };
+        Ok(clock)
+    }
+
+    /// Returns the frame that the bytes are the text of, and the clock that its coming has if the node takes it. It
+    /// looks at the frame's nodes only if no clock is left, since `WrongNode` and `Stranger` come before `ClockFull`.
     ///
     /// # Errors
     ///
@@ -521,7 +631,8 @@ impl Book {
             Ok(frame) => frame,
             Err(fault) => return Err(BookError::Frame(fault)),
         };
-        // The event's frame is copied through a borrow, since the proof of a copy of the variable is not told of the type of its message.
+        // The event's frame is copied through a borrow, since the proof of a copy of the variable is not told of the
+        // type of its message.
         let came = &frame;
         let kind = BookKind::Got(*came);
         let latest = self.clock();

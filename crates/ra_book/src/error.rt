@@ -1,7 +1,7 @@
 ghost use Rattle.std.specs.Prelude.{◌≡◌};
 
 use ra_frame::FrameError;
-use ra_node::{AskError, LeaveError, ReceiveError};
+use ra_node::{AskError, CancelError, LeaveError, ReceiveError};
 use ra_stamp::Memory;
 use std::fmt;
 use thiserror::Error;
@@ -19,6 +19,8 @@ pub enum BookError {
     Exhausted,
     /// The client that leaves does not hold the name here.
     NotHeld,
+    /// The client that gives up neither waits nor is queued for the name here.
+    NotWaiting,
     /// The frame is for another node.
     WrongNode,
     /// The frame's sender is this node or above the number of nodes.
@@ -62,6 +64,19 @@ impl From<LeaveError> for BookError {
         match refused {
             LeaveError::NotHeld => BookError::NotHeld,
             LeaveError::Memory => BookError::Memory,
+        }
+    }
+}
+
+impl From<CancelError> for BookError {
+    ghost use Rattle.ra_book.specs.Refused.{refusal_of_cancel};
+
+    ghost from_gives = { λ refused fault. fault ≡ refusal_of_cancel refused };
+
+    fn from(refused: CancelError) -> BookError {
+        match refused {
+            CancelError::NotWaiting => BookError::NotWaiting,
+            CancelError::Memory => BookError::Memory,
         }
     }
 }

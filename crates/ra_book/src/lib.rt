@@ -1,8 +1,9 @@
 //! The history of a node, and the run into which the histories of all nodes settle.
 //!
-//! A [`TimedNode`] is a node with an event clock, and no history. A node's book has the node, its event clock, what happened
-//! at it, and what it sent. [`settle`] makes one run of the cluster out of the books of all nodes, or says why they do not
-//! settle. Nothing here knows of threads: `ra_site` shares books among threads, and `ra_book_text` writes them as text.
+//! A [`TimedNode`] is a node with an event clock, and no history. A node's book has the node, its event clock, what
+//! happened at it, and what it sent. [`settle`] makes one run of the cluster out of the books of all nodes, or says why
+//! they do not settle. Nothing here knows of threads: `ra_site` shares books among threads, and `ra_book_text` writes
+//! them as text.
 //!
 //! The event clock is that of L. Lamport, CACM 21(7), 1978.
 #![tactic(auto)]

@@ -24,8 +24,9 @@ use crate::{Book, Grant, SettleError, Settled};
 use ra_world::{RunError, Steps, run};
 use std::alloc::Global;
 
-/// Returns whether the books are those of nodes 1 to n, in order, each of n nodes and all from one start, and nothing was
-/// taken from them. An empty list is not a cluster. It does not allocate, and the cost is linear in the number of books.
+/// Returns whether the books are those of nodes 1 to n, in order, each of n nodes and all from one start, and nothing
+/// was taken from them. An empty list is not a cluster. It does not allocate, and the cost is linear in the number of
+/// books.
 pub fn is_cluster(books: &[Book]) -> bool
     ensures { IsTrue result ↔ IsCluster books.now }
 {
@@ -42,10 +43,11 @@ pub fn is_cluster(books: &[Book]) -> bool
     true
 }
 
-/// Returns whether a book is that of the node with this place, counted from 0, of this many nodes and from this start, and
-/// nothing was taken from it.
+/// Returns whether a book is that of the node with this place, counted from 0, of this many nodes and from this start,
+/// and nothing was taken from it.
 fn is_member(book: &Book, place: usize, count: usize, start: u64) -> bool
-    ensures { IsTrue result ↔ ((book.now.me ≡ place + 1) × (book.now.nodes ≡ count) × (book.now.start ≡ start) × IsWhole book.now) }
+    ensures { IsTrue result
+        ↔ ((book.now.me ≡ place + 1) × (book.now.nodes ≡ count) × (book.now.start ≡ start) × IsWhole book.now) }
 {
     book.me().place() == place
         && usize::from(book.nodes()) == count
@@ -53,19 +55,20 @@ fn is_member(book: &Book, place: usize, count: usize, start: u64) -> bool
         && book.is_whole()
 }
 
-/// Settles the books of a cluster into one run of it: the events of all books by clock, and those of one clock by node, and then
-/// the loss of each frame that is flagged lost, by node and then in order of sending. So what [`run`] says of its steps holds of
-/// what happened at the nodes. Books settle, unless memory runs out, exactly if none of the first four errors below holds. With n
-/// events and frames sent, m grants and k books the cost is that of the run, plus n log n, m log m and k n. That of the
-/// run is linear in n, on average. If there was no memory to know the clients of a long queue, each ask looks through its name's
-/// queue, too. If there was none for an index of the messages under way, each frame that came looks through those under way.
+/// Settles the books of a cluster into one run of it: the events of all books by clock, and those of one clock by node,
+/// and then the loss of each frame that is flagged lost, by node and then in order of sending. So what [`run`] says of
+/// its steps holds of what happened at the nodes. Books settle, unless memory runs out, exactly if none of the first
+/// four errors below holds. With n events and frames sent, m grants and k books the cost is that of the run, plus n log
+/// n, m log m and k n. That of the run is linear in n, on average. If there was no memory to know the clients of a long
+/// queue, each ask looks through its name's queue, too. If there was none for an index of the messages under way, each
+/// frame that came looks through those under way.
 ///
 /// # Errors
 ///
 /// The first that holds, each of all books or grants:
 ///
-/// 1. `NotSent`: a frame came, with this clock and message, that is not among the frames that its sender sent and that are not
-///    flagged lost.
+/// 1. `NotSent`: a frame came, with this clock and message, that is not among the frames that its sender sent and that
+///    are not flagged lost.
 /// 2. `Twice`: a message came twice.
 /// 3. `GrantMissing`: the entry of a grant has no Entered mark in its node's book.
 /// 4. `GrantTwice`: two grants are equal.

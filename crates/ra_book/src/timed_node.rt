@@ -5,11 +5,12 @@ use crate::book::event_check::event_refusal;
 use crate::book::kept_events::clock_after;
 use crate::{BookError, BookKind};
 use ra_node::{Node, Outcome};
-use ra_stamp::Member;
+use ra_stamp::{Marks, Member, Messages};
 use std::alloc::Global;
 use std::marker::Model;
 
-/// A node and its clock, and no history: what it takes does not grow with the number of events, but with the names that it meets.
+/// A node and its clock, and no history: what it takes does not grow with the number of events, but with the names
+/// that it meets.
 #[derive(Drop)]
 pub struct TimedNode {
     node: Node,
@@ -32,8 +33,8 @@ impl Model for TimedNode {
 impl TimedNode {
     ghost use Rattle.ra_book.specs.Timed.{CanCome, FitAt, Takes, Refuses, opening};
 
-    /// Makes the node of a member, which has met nothing. The highest number of each resource begins at `start`. It does not
-    /// allocate.
+    /// Makes the node of a member, which has met nothing. The highest number of each resource begins at `start`. It
+    /// does not allocate.
     pub fn new(alloc: Global, member: Member, start: u64) -> TimedNode
         ensures { result ≡ opening member.node member.nodes start }
     {
@@ -50,14 +51,14 @@ impl TimedNode {
         self.clock
     }
 
-    /// Makes an event happen: the node takes it, and its clock goes on. Returns what the event sends and marks. The cost is that of the
-    /// node's call.
+    /// Makes an event happen: the node takes it, and its clock goes on. Returns what the event sends and marks. The
+    /// cost is that of the node's call.
     ///
     /// # Errors
     ///
     /// The first that holds, and the node is as before:
     ///
-    /// 1. `Busy`, `Exhausted`, `NotHeld`, `WrongNode`, `Stranger`: those of the node's call.
+    /// 1. `Busy`, `Exhausted`, `NotHeld`, `NotWaiting`, `WrongNode`, `Stranger`: those of the node's call.
     /// 2. `ClockFull`: the clock would pass 2^62.
     /// 3. `Memory`: the call can be made again.
     pub fn take(&mut self, alloc: Global, kind: &BookKind) -> Result<Outcome, BookError>
@@ -73,7 +74,15 @@ impl TimedNode {
         let outcome = match kind {
             BookKind::Asked { client, name, mode } => self.node.ask(alloc, *client, *name, *mode)?,
             BookKind::Gave { client, name } => self.node.leave(alloc, *client, *name)?,
+            BookKind::Cancelled { client, name } => self.node.cancel(alloc, *client, *name)?,
             BookKind::Got(frame) => self.node.receive(alloc, &frame.message)?,
+            BookKind::Forgot => {
+                self.node.forget();
+                Outcome {
+                    sends: Messages::new(alloc),
+                    marks: Marks::new(alloc),
+                }
+            }
         };
         self.clock = next;
         Ok(outcome)

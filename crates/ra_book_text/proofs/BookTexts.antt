@@ -1,10 +1,12 @@
 -- The lines of a text, one after the other.
-use Rattle.std.proofs.Common.{◌≡◌, ℕ, ◌+◌, ◌<◌, true, List, [], ◌∷◌, ◌++◌, length, Result, Ok, Err, inl, inr, refl, sym, ap, ◌∙◌, append_assoc, arith}
+use Rattle.std.proofs.Common.{◌≡◌, ℕ, ◌+◌, ◌<◌, true, List, [], ◌∷◌, ◌++◌, length, Result, Ok, Err, inl, inr, refl, sym, ap, subst, ◌∙◌, append_assoc, arith}
 use Rattle.std.proofs.lemmas.List.{flat_map_more, length_push}
 use Rattle.std.proofs.lemmas.List.Elements.{All-nil, All-push}
 use Rattle.ra_book.specs.Book.{BookState}
 use Rattle.ra_book_text.specs.Book.{lines_text}
-use Rattle.ra_book_text.specs.BookText.{IsFirst}
+use Rattle.ra_book_text.specs.BookText.{IsNoFirst}
+use Rattle.ra_book_text.specs.declared.next_line.book_version.BookVersion.{BookVersion}
+use Rattle.ra_book_text.specs.declared.next_line.book_version.BookVersion.TheVariants.{One}
 use Rattle.ra_book_text.specs.Input.{HasNoFeed}
 use Rattle.ra_book_text.specs.declared.text_settling.settle_error.TextCause.{TextCause}
 use Rattle.ra_book_text.specs.declared.text_settling.settle_error.TextCause.TheVariants as cause
@@ -13,7 +15,7 @@ use Rattle.ra_book_text.specs.declared.text_settling.gathering.LineFault.{LineFa
 use Rattle.ra_book_text.specs.declared.text_settling.gathering.LineFault.TheVariants as line_fault
 use Rattle.ra_book_text.specs.Texts.{Begins, IsRead}
 use Rattle.ra_book_text.specs.Gathering.{HasGathered, IsGathered, TakesFirst, TakesLine, books_of}
-use Rattle.ra_book_text.specs.Verdicts.{IsNoLine, IsWrong, IsWrongAt}
+use Rattle.ra_book_text.specs.Verdicts.{IsNoLine, IsWrong, IsWrongAt, IsWrongLine}
 use Rattle.ra_book_text.proofs.Lines.{happened, opened}
 
 -- nothing was read yet
@@ -82,11 +84,11 @@ line_wrong text rest line after turn number why old new h is free number_is wron
   number_is = omega (arith, number_is, h.long);
   books = books_of old;
   right = h.gathered.right;
-  wrong = wrong;
+  wrong = subst (λ (v : BookVersion). IsWrongLine v (books_of old) line why) h.gathered.version_is wrong;
 })
 
 -- the first line is none of a book
-pub no_beginning : (text line rest : List ℕ) → Begins text (line ∷ []) rest → ((node nodes start : ℕ) → IsFirst line node nodes start → ⊥) → IsWrong true text 1 cause.Line
+pub no_beginning : (text line rest : List ℕ) → Begins text (line ∷ []) rest → IsNoFirst line → IsWrong true text 1 cause.Line
 no_beginning text line rest begins not_first = inr (record {
   before = [];
   line = line;
@@ -94,15 +96,15 @@ no_beginning text line rest begins not_first = inr (record {
   begins = begins;
   number_is = refl;
   books = [];
-  right = record { lines_are = tt; each = All-nil IsRead; beside = λ i j d low within. absurd (omega (arith, within)) };
+  right = record { version = One; read_in = refl; lines_are = tt; each = All-nil IsRead; beside = λ i j d low within. absurd (omega (arith, within)) };
   wrong = (not_first, inl refl);
 })
 
 -- ---- What is said of a line
 
 -- it is too long
-pub too_long : (books : List BookState) (line : List ℕ) → 256 < length line → IsNoLine books line
-too_long books line long = (λ node nodes start is. omega (arith, long, is.short), inr (λ form is. omega (arith, long, is.0)))
+pub too_long : (version : BookVersion) (books : List BookState) (line : List ℕ) → 256 < length line → IsNoLine version books line
+too_long version books line long = (λ own node nodes start is. omega (arith, long, is.short), inr (inl (λ form is. omega (arith, long, is.0))))
 
 pub takes_first : (old new : Gathered) (number : ℕ) (line : List ℕ) (r : Result (Unit {0}) LineFault) → TakesFirst old line new r → TakesLine old number line new r
 takes_first old new number line (Ok done) h = inl h

@@ -20,6 +20,7 @@ mod Outcome
 mod Settlements
 mod ListPieces
 mod OneReading
+mod Versions
 mod OneHistory
 mod OneBooks
 mod OneCame

@@ -1,5 +1,5 @@
 -- The lines that a node accepted are its book, as settling reads it, with what the node answered.
-use Rattle.std.proofs.Common.{codes, ◌≡◌, ℕ, Bool, false, List, [], ◌∷◌, ◌++◌, map, refl, sym, ap, subst, ◌∙◌}
+use Rattle.std.proofs.Common.{codes, ◌≡◌, ℕ, Bool, false, List, [], ◌∷◌, ◌++◌, map, inl, inr, refl, sym, ap, subst, ◌∙◌}
 use Rattle.std.specs.Prelude.{All, None, flat_map}
 use Rattle.std.specs.List.{AllZip}
 use Rattle.std.proofs.lemmas.List.Elements.{All-cons, All-head, All-map, All-nil, All-tail}
@@ -8,7 +8,9 @@ use Rattle.ra_book.specs.History.{clock_of, IsHistory, Posting, frames_of}
 use Rattle.ra_book.specs.Book.{BookState, HasHistory, as_sent, nothing_taken}
 use Rattle.ra_book_text.specs.declared.text_settling.SettledText.{SettledText}
 use Rattle.ra_book.specs.declared.book.sent.Sent.{Sent}
-use Rattle.ra_book_text.specs.BookText.{IsEvent}
+use Rattle.ra_book_text.specs.BookText.{AreReadIn, IsEventIn}
+use Rattle.ra_book_text.specs.declared.next_line.book_version.BookVersion.{BookVersion}
+use Rattle.ra_book_text.specs.declared.next_line.book_version.BookVersion.TheVariants.{One}
 use Rattle.ra_book.specs.Timed.{Timed, TakesEach, opening}
 use Rattle.ra_book_text.specs.Answers.{Answered, AnswersEach, kept_of, lines_of, text_of}
 use Rattle.ra_book_text.specs.Book.{AnswersBook}
@@ -19,35 +21,39 @@ use Rattle.ra_book_text.specs.Texts.Said.{Happens}
 use Rattle.ra_book_text.specs.Verdicts.{IsSettledText}
 use Rattle.ra_book_text.proofs.OneHistory.{HistoryLaws}
 use Rattle.ra_book_text.proofs.OneBooks.{books_once}
+use Rattle.ra_book.specs.declared.book.event.BookKind.{BookKind}
+use Rattle.ra_book_text.proofs.Versions.{reads_append}
 use Rattle.ra_book_text.proofs.OneReading.{LineLaws, all_said, one_text}
 
 -- what was answered to a book is that of a node which was driven
 pub driven_by : (first : List ℕ) (lines : List (List ℕ)) (text : List ℕ) → AnswersBook (first ∷ lines) text
     → (driven : Driven) × IsDriven driven × (driven.first ≡ first) × (lines_of driven.answered ≡ lines) × (text ≡ codes "ok\n" ++ text_of driven.answered)
-driven_by first lines text (node, nodes, start, end, rest, is_first, text_is, (all, lines_are, rest_is, each)) = (
+driven_by first lines text (version, node, nodes, start, end, rest, is_first, text_is, (all, lines_are, rest_is, each)) = (
   record { first = first; answered = all; end = end },
-  (node, nodes, start, is_first, each),
+  (version, node, nodes, start, is_first, each),
   refl,
   sym lines_are,
   text_is ∙ ap (λ (t : List ℕ). codes "ok\n" ++ t) rest_is,
 )
 
 -- what came of the lines that a node accepted
-record Happened (old new : Timed) (kept : List Answered) : Type 0 where
+record Happened (version : BookVersion) (old new : Timed) (kept : List Answered) : Type 0 where
   postings : List Posting
   takes : TakesEach old postings new
   answers : AllZip IsAnswerTo postings kept
+  each_in : AllZip (IsEventIn version) (lines_of kept) (map (λ event. event.kind) (map (λ p. p.event) postings))
 
-happened : (old new : Timed) (all : List Answered) → AnswersEach old all new → Happened old new (kept_of all)
-happened old new [] h = record { postings = []; takes = h; answers = tt }
-happened old new (Refused line answer ∷ all) h = happened old new all h.1
-happened old new (Accepted line answer ∷ all) (next, accepts, later) =
-    let rest = happened next new all later in
+happened : (version : BookVersion) (old new : Timed) (all : List Answered) → AnswersEach version old all new → Happened version old new (kept_of all)
+happened version old new [] h = record { postings = []; takes = h; answers = tt; each_in = tt }
+happened version old new (Refused line answer ∷ all) h = happened version old new all h.1
+happened version old new (Accepted line answer ∷ all) (next, accepts, later) =
+    let rest = happened version next new all later in
     let event : BookEvent = record { clock = next.clock; kind = accepts.reacts.kind } in
     record {
       postings = record { event = event; sends = accepts.sends; marks = accepts.marks } ∷ rest.postings;
       takes = (next, accepts.reacts.takes, refl, rest.takes);
-      answers = ((accepts.reacts.is_event, accepts.posted), rest.answers);
+      answers = ((accepts.reacts.is_event.1, accepts.posted), rest.answers);
+      each_in = (accepts.reacts.is_event, rest.each_in);
     }
 
 -- the law of ra_book: what a node with a clock took is a history
@@ -58,13 +64,12 @@ TakenIsHistory = (me n start : ℕ) (postings : List Posting) (new : Timed) → 
 
 -- ---- The history
 
-events_each : (postings : List Posting) (kept : List Answered) → AllZip IsAnswerTo postings kept
-    → AllZip IsEvent (lines_of kept) (map (λ event. event.kind) (map (λ p. p.event) postings))
-events_each [] [] h = tt
-events_each [] (one ∷ kept) h = absurd h
-events_each (p ∷ postings) [] h = absurd h
-events_each (p ∷ postings) (Accepted line answer ∷ kept) h = (h.0.0, events_each postings kept h.1)
-events_each (p ∷ postings) (Refused line answer ∷ kept) h = absurd h.0
+-- the lines of the events are read in their version
+reads_each : (version : BookVersion) (lines : List (List ℕ)) (kinds : List BookKind) → AllZip (IsEventIn version) lines kinds → AreReadIn version lines version
+reads_each version [] [] h = refl
+reads_each version [] (k ∷ kinds) h = absurd h
+reads_each version (l ∷ lines) [] h = absurd h
+reads_each version (l ∷ lines) (k ∷ kinds) h = inr (k, h.0, reads_each version lines kinds h.1)
 
 says_each : (postings : List Posting) (kept : List Answered) → AllZip IsAnswerTo postings kept
     → AllZip Says (lines_of kept) (map (λ event. Happens event.kind) (map (λ p. p.event) postings))
@@ -76,13 +81,13 @@ says_each (p ∷ postings) (Refused line answer ∷ kept) h = absurd h.0
 
 module _ (law : TakenIsHistory) where
   -- the lines that were accepted are the events of a history
-  pub history : (me n start : ℕ) (new : Timed) (all : List Answered) → AnswersEach (opening me n start) all new
+  pub history : (version : BookVersion) (me n start : ℕ) (new : Timed) (all : List Answered) → AnswersEach version (opening me n start) all new
       → (events : List BookEvent) × (sent : List Sent) × IsHistory me n start events sent new.node
-      × AllZip IsEvent (lines_of (kept_of all)) (map (λ event. event.kind) events) × (clock_of events ≡ new.clock)
-  history me n start new all each =
-      let h = happened (opening me n start) new all each in
+      × AllZip (IsEventIn version) (lines_of (kept_of all)) (map (λ event. event.kind) events) × (clock_of events ≡ new.clock)
+  history version me n start new all each =
+      let h = happened version (opening me n start) new all each in
       let (is, same, clock) = law me n start h.postings new h.takes in
-      (map (λ (p : Posting). p.event) h.postings, as_sent (frames_of h.postings), is, events_each h.postings (kept_of all) h.answers, clock)
+      (map (λ (p : Posting). p.event) h.postings, as_sent (frames_of h.postings), is, h.each_in, clock)
 
   -- ---- The book
 
@@ -100,14 +105,15 @@ module _ (law : TakenIsHistory) where
 
   -- the lines that were kept of a node are its book
   pub book_of : (driven : Driven) → IsDriven driven → (book : BookState) × IsBookOf driven book
-  book_of driven (me, n, start, first, each) =
-      let h = happened (opening me n start) driven.end driven.answered each in
+  book_of driven (version, me, n, start, first, each) =
+      let h = happened version (opening me n start) driven.end driven.answered each in
       let book = book_by me n start h.postings in
       let (leads, same, clock) = law me n start h.postings driven.end h.takes in
       let history : HasHistory book = record { count = first.count; member = first.member; node = driven.end.node; leads = leads } in (
         book,
         record {
-          said = (first, says_each h.postings (kept_of driven.answered) h.answers);
+          said = ((version, first), says_each h.postings (kept_of driven.answered) h.answers);
+          read_in = (version, λ before. inl (version, me, n, start, first, reads_each version (lines_of (kept_of driven.answered)) (map (λ event. event.kind) (map (λ p. p.event) h.postings)) h.each_in));
           is_read = record {
             history = history;
             whole = refl;
@@ -137,11 +143,22 @@ all_said_by (d ∷ driven) (b ∷ books) h =
     let rest = all_said_by driven books h.1 in
     (zip_append (book_lines d) (all_book_lines driven) (said_by b) (flat_map said_by books) h.0.said rest.0, All-cons IsRead b books h.0.is_read rest.1)
 
+-- each line is read in the version of its book
+reads_all : (driven : List Driven) (books : List BookState) → AllZip IsBookOf driven books → (before : BookVersion) → (version : BookVersion) × AreReadIn before (all_book_lines driven) version
+reads_all [] [] h before = (before, refl)
+reads_all [] (b ∷ books) h before = absurd h
+reads_all (d ∷ driven) [] h before = absurd h
+reads_all (d ∷ driven) (b ∷ books) h before =
+    let here = h.0.read_in in
+    let rest = reads_all driven books h.1 here.0 in
+    (rest.0, reads_append (book_lines d) (all_book_lines driven) before here.0 rest.0 (here.1 before) rest.1)
+
 -- the books of nodes are right if they are beside each other
 pub are_right : (driven : List Driven) (books : List BookState) → AllZip IsBookOf driven books → AreBeside books → AreRight (all_book_lines driven) books
 are_right driven books h beside =
     let said = all_said_by driven books h in
-    record { lines_are = said.0; each = said.1; beside = beside }
+    let reads = reads_all driven books h One in
+    record { version = reads.0; read_in = reads.1; lines_are = said.0; each = said.1; beside = beside }
 
 module _ (law : TakenIsHistory) (lines : LineLaws) (histories : HistoryLaws) where
   each_book : (driven : List Driven) → All IsDriven driven → (books : List BookState) × AllZip IsBookOf driven books

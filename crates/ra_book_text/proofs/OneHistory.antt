@@ -10,10 +10,11 @@ use Rattle.ra_node.specs.Node.{NodeState, opening_node}
 use Rattle.ra_node.specs.Events.{Happening, NodeEvent, NodeEvents, IsForThisNode}
 use Rattle.ra_book.specs.declared.book.event.BookEvent.{BookEvent}
 use Rattle.ra_book.specs.declared.book.event.BookKind.{BookKind}
-use Rattle.ra_book.specs.declared.book.event.BookKind.TheVariants.{Asked, Gave, Got}
+use Rattle.ra_book.specs.declared.book.event.BookKind.TheVariants.{Asked, Gave, Cancelled, Forgot, Got}
 use Rattle.ra_book.specs.declared.book.sent.Sent.{Sent}
 use Rattle.ra_book.specs.History.{Posting, IsHistory, AreClocked, node_event, happening_of, clock_after, clock_from, clock_of, frames_of}
 use Rattle.ra_book.specs.Book.{BookState, TakenState, as_sent, whole_events}
+use Rattle.ra_node.proofs.Possible.{cancel_was_allowed}
 use Rattle.ra_book_text.specs.Texts.{CanTake, IsRead}
 use Rattle.ra_book_text.proofs.OneReading.{head_of, tail_of}
 use Rattle.ra_book_text.proofs.ListPieces.{all_left, all_right}
@@ -195,12 +196,23 @@ module _ (laws : HistoryLaws) where
     leads = read.history.leads;
     holds = (
       elim next.happens.turn [
-        | inl nobody ↦ (nobody.entry, nobody.leaves.holds)
-        | inr one ↦ (one.entry, one.leaves.holds)
+        | inl nobody ↦ (nobody.entry, nobody.ends.holds)
+        | inr one ↦ (one.entry, one.ends.holds)
       ],
       subst (λ (es : List BookEvent). clock_after (clock_of es) (Gave client name) ≤ 2 ^ 62) (sym (whole_events_are last read)) next.low,
     );
   }
+  can_at last (Cancelled client name) read next = record {
+    no_fault = read.no_fault;
+    node = read.history.node;
+    leads = read.history.leads;
+    holds = (
+      cancel_was_allowed read.history.node client name (_, _, _, next.happens),
+      subst (λ (es : List BookEvent). clock_after (clock_of es) (Cancelled client name) ≤ 2 ^ 62) (sym (whole_events_are last read)) next.low,
+    );
+  }
+  can_at last Forgot read next =
+      (read.no_fault, subst (λ (es : List BookEvent). clock_after (clock_of es) Forgot ≤ 2 ^ 62) (sym (whole_events_are last read)) next.low)
   can_at last (Got frame) read next =
       (read.no_fault, next.for_it, subst (λ (es : List BookEvent). clock_after (clock_of es) (Got frame) ≤ 2 ^ 62) (sym (whole_events_are last read)) next.low)
 

@@ -4,11 +4,12 @@ use Rattle.std.specs.Prelude.{All}
 use Rattle.std.specs.List.{AllZip}
 use Rattle.std.proofs.lemmas.List.Elements.{All-head, All-tail, All-contains, Contains-append_right}
 use Rattle.ra_book.specs.declared.book.event.BookKind.{BookKind}
-use Rattle.ra_book.specs.declared.book.event.BookKind.TheVariants.{Asked, Gave, Got}
+use Rattle.ra_book.specs.declared.book.event.BookKind.TheVariants.{Asked, Gave, Cancelled, Forgot, Got}
 use Rattle.ra_book_text.specs.declared.answering.line_refusal.Refusal.{Refusal}
 use Rattle.ra_book_text.specs.Book.{lines_text}
 use Rattle.ra_book_text.specs.BookText.{Form, HasForm, IsEvent, IsFirst, IsUnread}
-use Rattle.ra_book_text.specs.BookText.Form.{Ask, Release, Receive}
+use Rattle.ra_book_text.specs.BookText.Form.{Ask, Release, Cancel, Forget, Receive}
+use Rattle.ra_book_text.specs.declared.next_line.book_version.BookVersion.{BookVersion}
 use Rattle.ra_book_text.specs.Input.{HasNoFeed}
 use Rattle.ra_book_text.specs.Texts.{Said, Says, IsText}
 use Rattle.ra_book_text.specs.Texts.Said.{Opens, Happens}
@@ -95,30 +96,32 @@ no_line text l ls r free is = no_feed_in text l (lines_text ls ++ r) free (is �
 
 -- what the proofs rest on
 pub record LineLaws : Type 0 where
-  pub first : (line : List ℕ) (node other nodes nodes' start start' : ℕ) → IsFirst line node nodes start → IsFirst line other nodes' start'
-      → (node ≡ other) × (nodes ≡ nodes') × (start ≡ start')
+  pub first : (line : List ℕ) (version version' : BookVersion) (node other nodes nodes' start start' : ℕ) → IsFirst line version node nodes start
+      → IsFirst line version' other nodes' start' → (version ≡ version') × (node ≡ other) × (nodes ≡ nodes') × (start ≡ start')
   pub event : (line : List ℕ) (a b : BookKind) → IsEvent line a → IsEvent line b → a ≡ b
-  pub apart : (line : List ℕ) (node nodes start : ℕ) (form : Form) → IsFirst line node nodes start → HasForm line form → ⊥
+  pub apart : (line : List ℕ) (version : BookVersion) (node nodes start : ℕ) (form : Form) → IsFirst line version node nodes start → HasForm line form → ⊥
   pub is_read : (line : List ℕ) (kind : BookKind) (why : Refusal) → IsEvent line kind → IsUnread line why → ⊥
 
 -- the form of an event
 pub event_form : (line : List ℕ) (kind : BookKind) → IsEvent line kind → (form : Form) × HasForm line form
 event_form line (Asked client name mode) h = (Ask client name mode, h)
 event_form line (Gave client name) h = (Release client name, h)
+event_form line (Cancelled client name) h = (Cancel client name, h)
+event_form line Forgot h = (Forget, h)
 event_form line (Got frame) (digits, form, is) = (Receive digits, form)
 
 module _ (laws : LineLaws) where
-  pub first_no_event : (line : List ℕ) (node nodes start : ℕ) (kind : BookKind) → IsFirst line node nodes start → IsEvent line kind → ⊥
-  first_no_event line node nodes start kind g h =
+  pub first_no_event : (line : List ℕ) (version : BookVersion) (node nodes start : ℕ) (kind : BookKind) → IsFirst line version node nodes start → IsEvent line kind → ⊥
+  first_no_event line version node nodes start kind g h =
       let (form, has) = event_form line kind h in
-      laws.apart line node nodes start form g has
+      laws.apart line version node nodes start form g has
 
   pub one_said : (line : List ℕ) (a b : Said) → Says line a → Says line b → a ≡ b
   one_said line (Opens node nodes start) (Opens node' nodes' start') g h =
-      let e = laws.first line node node' nodes nodes' start start' g h in
-      λ i. Opens (e.0 i) (e.1 i) (e.2 i)
-  one_said line (Opens node nodes start) (Happens kind) g h = absurd (first_no_event line node nodes start kind g h)
-  one_said line (Happens kind) (Opens node nodes start) g h = absurd (first_no_event line node nodes start kind h g)
+      let e = laws.first line g.0 h.0 node node' nodes nodes' start start' g.1 h.1 in
+      λ i. Opens (e.1 i) (e.2 i) (e.3 i)
+  one_said line (Opens node nodes start) (Happens kind) g h = absurd (first_no_event line g.0 node nodes start kind g.1 h)
+  one_said line (Happens kind) (Opens node nodes start) g h = absurd (first_no_event line h.0 node nodes start kind h.1 g)
   one_said line (Happens kind) (Happens other) g h = ap Happens (laws.event line kind other g h)
 
   pub all_said : (lines : List (List ℕ)) (vs bs : List Said) → AllZip Says lines vs → AllZip Says lines bs → vs ≡ bs

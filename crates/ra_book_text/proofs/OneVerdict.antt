@@ -14,6 +14,7 @@ use Rattle.ra_book_text.specs.declared.text_settling.came_frames.Came.{Came}
 use Rattle.ra_book_text.specs.declared.text_settling.settle_error.TextCause.{TextCause}
 use Rattle.ra_book_text.specs.declared.text_settling.settle_error.TextCause.TheVariants as cause
 use Rattle.ra_book_text.specs.Texts.{AreRight, IsText, came_in}
+use Rattle.ra_book_text.specs.declared.next_line.book_version.BookVersion.{BookVersion}
 use Rattle.ra_book_text.specs.Verdicts.{FitBy, HasFittingBooks, IsFirstAgain, IsFirstUnsent, IsMissing, IsWrong, IsWrongAt, IsWrongLine, messages_of}
 use Rattle.ra_book_text.proofs.OneCame.{all_came_sent, none_again, not_before}
 use Rattle.ra_book_text.proofs.ListPieces.{all_right as all_after}
@@ -23,9 +24,10 @@ use Rattle.ra_book_text.proofs.OneReading.{either_first, begin_in, head_of, no_l
 pub record VerdictLaws : Type 0 where
   pub lines : (text : List ℕ) (lines others : List (List ℕ)) → IsText text lines → IsText text others → lines ≡ others
   pub books : (lines : List (List ℕ)) (books others : List BookState) → AreRight lines books → AreRight lines others → books ≡ others
-  pub right : (before after : List (List ℕ)) (line : List ℕ) (why : TextCause) (earlier books : List BookState) → AreRight before earlier
-      → IsWrongLine earlier line why → AreRight (before ++ line ∷ after) books → ⊥
-  pub apart : (books : List BookState) (line : List ℕ) (a b : TextCause) → IsWrongLine books line a → IsWrongLine books line b → a ≡ b
+  pub version : (lines : List (List ℕ)) (books others : List BookState) (is : AreRight lines books) (other : AreRight lines others) → is.version ≡ other.version
+  pub right : (before after : List (List ℕ)) (line : List ℕ) (why : TextCause) (earlier books : List BookState) (is : AreRight before earlier)
+      → IsWrongLine is.version earlier line why → AreRight (before ++ line ∷ after) books → ⊥
+  pub apart : (version : BookVersion) (books : List BookState) (line : List ℕ) (a b : TextCause) → IsWrongLine version books line a → IsWrongLine version books line b → a ≡ b
 
 -- ---- Lists
 
@@ -209,14 +211,21 @@ module _ (laws : VerdictLaws) (text : List ℕ) where
             is ∙ ap (λ (ls : List (List ℕ)). (h.before ++ h.line ∷ []) ++ ls) (no_longer other number why cause h g more is) ∙ append-nil (h.before ++ h.line ∷ [])
       ]
 
+  -- the same lines are read in one version
+  version_of : (before other : List (List ℕ)) (books others : List BookState) → before ≡ other → (is : AreRight other books) (right : AreRight before others)
+      → is.version ≡ right.version
+  version_of before other books others same is right =
+      subst (λ (ls : List (List ℕ)). (x : AreRight ls books) → x.version ≡ right.version) same (λ x. laws.version before books others x right) is
+
   at_once : (number other : ℕ) (cause why : TextCause) → IsWrongAt text number cause → IsWrongAt text other why → (number ≡ other) × (cause ≡ why)
   at_once number other cause why g h =
       let same = same_from_push g.before h.before g.line h.line (one_line number other cause why g h) in
       let books : g.books ≡ h.books = laws.books h.before g.books h.books (subst (λ (ls : List (List ℕ)). AreRight ls g.books) same.0 g.right) h.right in
-      let wrong : IsWrongLine h.books h.line cause =
-      subst (λ (t : List BookState × List ℕ). IsWrongLine t.0 t.1 cause) (λ i. (books i, same.1 i)) g.wrong in (
+      let version : g.right.version ≡ h.right.version = version_of h.before g.before g.books h.books (sym same.0) g.right h.right in
+      let wrong : IsWrongLine h.right.version h.books h.line cause =
+      subst (λ (t : BookVersion × (List BookState × List ℕ)). IsWrongLine t.0 t.1.0 t.1.1 cause) (λ i. (version i, (books i, same.1 i))) g.wrong in (
         g.number_is ∙ ap (λ (ls : List (List ℕ)). length ls + 1) same.0 ∙ sym h.number_is,
-        laws.apart h.books h.line cause why wrong h.wrong,
+        laws.apart h.right.version h.books h.line cause why wrong h.wrong,
       )
 
   books_wrong_once : (repeats : Bool) (lines : List (List ℕ)) (books : List BookState) (number other : ℕ) (cause why : TextCause) → WrongBooks repeats lines books number cause

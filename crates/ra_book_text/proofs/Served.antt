@@ -12,6 +12,7 @@ use Rattle.ra_book_text.specs.declared.answering.line_refusal.Refusal.TheVariant
 use Rattle.ra_book.specs.Timed.{Timed, opening}
 use Rattle.ra_book_text.specs.Answers.{Answered, Answers, AnswersAll, AnswersEach, answer_of, line_of, lines_of, refused_line, text_of}
 use Rattle.ra_book_text.specs.Answers.Answered.{Accepted, Refused}
+use Rattle.ra_book_text.specs.declared.next_line.book_version.BookVersion.{BookVersion}
 use Rattle.ra_book_text.specs.declared.next_line.kept_line.KeptLine.{KeptLine}
 use Rattle.ra_book_text.specs.Input.{HasNoFeed, TakesOpen, TakesMost, HasEnded}
 use Rattle.ra_book_text.specs.NextLine.{ReadsLine}
@@ -62,41 +63,41 @@ read_on old mid new line lines part first others = record {
 }
 
 -- one more answer
-each_more : (a b c : Timed) (all : List Answered) (one : Answered) → AnswersEach a all b → AnswersEach b (one ∷ []) c → AnswersEach a (all ++ one ∷ []) c
-each_more a b c [] one h answer = subst (λ (at : Timed). AnswersEach at (one ∷ []) c) h answer
-each_more a b c (Accepted line answer ∷ all) one h more = (h.0, h.1, each_more h.0 b c all one h.2 more)
-each_more a b c (Refused line answer ∷ all) one h more = (h.0, each_more a b c all one h.1 more)
+each_more : (version : BookVersion) (a b c : Timed) (all : List Answered) (one : Answered) → AnswersEach version a all b → AnswersEach version b (one ∷ []) c → AnswersEach version a (all ++ one ∷ []) c
+each_more version a b c [] one h answer = subst (λ (at : Timed). AnswersEach version at (one ∷ []) c) h answer
+each_more version a b c (Accepted line answer ∷ all) one h more = (h.0, h.1, each_more version h.0 b c all one h.2 more)
+each_more version a b c (Refused line answer ∷ all) one h more = (h.0, each_more version a b c all one h.1 more)
 
 -- it is that of a line which was accepted or refused
-its_answer : (b c : Timed) (line text : List ℕ) → Answers b line text c
-    → (one : Answered) × (line_of one ≡ line) × (answer_of one ≡ text) × AnswersEach b (one ∷ []) c
-its_answer b c line text (inl accepts) = (Accepted line text, refl, refl, (c, accepts, refl))
-its_answer b c line text (inr denies) =
+its_answer : (version : BookVersion) (b c : Timed) (line text : List ℕ) → Answers version b line text c
+    → (one : Answered) × (line_of one ≡ line) × (answer_of one ≡ text) × AnswersEach version b (one ∷ []) c
+its_answer version b c line text (inl accepts) = (Accepted line text, refl, refl, (c, accepts, refl))
+its_answer version b c line text (inr denies) =
     (Refused line text, refl, refl, (record { why = denies.why; stays = record { cause = denies.stays.cause; new_is = refl }; text_is = denies.text_is }, denies.stays.new_is))
 
-pub answers_more : (a b c : Timed) (lines : List (List ℕ)) (line text more : List ℕ) → AnswersAll a lines text b → Answers b line more c
-    → AnswersAll a (lines ++ line ∷ []) (text ++ more) c
-answers_more a b c lines line text more h answer =
+pub answers_more : (version : BookVersion) (a b c : Timed) (lines : List (List ℕ)) (line text more : List ℕ) → AnswersAll version a lines text b → Answers version b line more c
+    → AnswersAll version a (lines ++ line ∷ []) (text ++ more) c
+answers_more version a b c lines line text more h answer =
     let (all, lines_are, text_is, each) = h in
-    let (one, line_is, answer_is, then) = its_answer b c line more answer in (
+    let (one, line_is, answer_is, then) = its_answer version b c line more answer in (
       all ++ one ∷ [],
       ap (λ (ls : List (List ℕ)). ls ++ line ∷ []) lines_are ∙ ap (λ (l : List ℕ). lines_of all ++ l ∷ []) (sym line_is) ∙ sym (map_push line_of all one),
       ap (λ (t : List ℕ). t ++ more) text_is ∙ ap (λ (t : List ℕ). text_of all ++ t) (sym answer_is) ∙ flat_map_more answer_of [] all one,
-      each_more a b c all one each then,
+      each_more version a b c all one each then,
     )
 
 -- a book whose first line was read, and then these lines
 answered : (old mid new : Option (List ℕ)) (first : FirstLine) (made after : Timed) (text : List ℕ) (line : List ℕ) → HasRead old mid (line ∷ []) [] → SaysFirst line first
-    → made ≡ opening first.member.node first.member.nodes first.start → AnswersSome mid new made text after → IsAnswered old new (codes "ok\n" ++ text)
+    → made ≡ opening first.member.node first.member.nodes first.start → AnswersSome first.version mid new made text after → IsAnswered old new (codes "ok\n" ++ text)
 answered old mid new first made after text line read opened is some = (
   line ∷ some.0,
   some.1,
   read_on old mid new line some.0 some.1 read some.2,
-  (first.member.node, first.member.nodes, first.start, after, text, opened, refl, subst (λ (at : Timed). AnswersAll at some.0 text after) is some.3),
+  (first.version, first.member.node, first.member.nodes, first.start, after, text, opened, refl, subst (λ (at : Timed). AnswersAll first.version at some.0 text after) is some.3),
 )
 
 pub served : (old mid new : Option (List ℕ)) (first : FirstLine) (made after : Timed) (ok text : List ℕ) (result : Result (Unit {0}) BookFault)
-    → Opens old mid ok (Ok first) → made ≡ opening first.member.node first.member.nodes first.start → Serves mid new made text after result
+    → Opens old mid ok (Ok first) → made ≡ opening first.member.node first.member.nodes first.start → Serves first.version mid new made text after result
     → IsOwed old new (ok ++ text) result
 served old mid new first made after ok text (Ok done) opens made_is serves =
     let is : ok ≡ codes "ok\n" = opens.3 in
@@ -140,39 +141,39 @@ not_opened old new kept Write h = (h.0, open_more old old new [] h.0 (nothing ol
 -- ---- The lines after it
 
 -- these lines were answered so far
-abbrev pub HasAnswered : Option (List ℕ) → Option (List ℕ) → Timed → List ℕ → Timed → ℕ → Type 0
-HasAnswered old now before text after turns =
-    (lines : List (List ℕ)) × HasRead old now lines [] × AnswersAll before lines text after × (turns ≤ length lines)
+abbrev pub HasAnswered : BookVersion → Option (List ℕ) → Option (List ℕ) → Timed → List ℕ → Timed → ℕ → Type 0
+HasAnswered version old now before text after turns =
+    (lines : List (List ℕ)) × HasRead old now lines [] × AnswersAll version before lines text after × (turns ≤ length lines)
 
-pub none_answered : (old : Option (List ℕ)) (node : Timed) → HasAnswered old old node [] node 0
-none_answered old node = ([], nothing old, ([], refl, refl, refl), omega arith)
+pub none_answered : (version : BookVersion) (old : Option (List ℕ)) (node : Timed) → HasAnswered version old old node [] node 0
+none_answered version old node = ([], nothing old, ([], refl, refl, refl), omega arith)
 
-pub one_answered : (old mid new : Option (List ℕ)) (a b c : Timed) (text line more : List ℕ) (turns : ℕ) → HasAnswered old mid a text b turns
-    → Consumes mid new (line ++ 10 ∷ []) → HasNoFeed line → Answers b line more c → HasAnswered old new a (text ++ more) c (turns + 1)
-one_answered old mid new a b c text line more turns (lines, read, answers, many) took free answer = (
+pub one_answered : (version : BookVersion) (old mid new : Option (List ℕ)) (a b c : Timed) (text line more : List ℕ) (turns : ℕ) → HasAnswered version old mid a text b turns
+    → Consumes mid new (line ++ 10 ∷ []) → HasNoFeed line → Answers version b line more c → HasAnswered version old new a (text ++ more) c (turns + 1)
+one_answered version old mid new a b c text line more turns (lines, read, answers, many) took free answer = (
   lines ++ line ∷ [],
   line_more old mid new lines line read took free,
-  answers_more a b c lines line text more answers answer,
+  answers_more version a b c lines line text more answers answer,
   omega (arith, many, length-append lines (line ∷ [])),
 )
 
-some_answered : (old mid new : Option (List ℕ)) (a b : Timed) (text : List ℕ) (turns : ℕ) → HasAnswered old mid a text b turns → TakesOpen mid new
-    → AnswersSome old new a text b
-some_answered old mid new a b text turns (lines, read, answers, many) part = (lines, part.0, open_more old mid new lines part.0 read part.1 part.2, answers)
+some_answered : (version : BookVersion) (old mid new : Option (List ℕ)) (a b : Timed) (text : List ℕ) (turns : ℕ) → HasAnswered version old mid a text b turns → TakesOpen mid new
+    → AnswersSome version old new a text b
+some_answered version old mid new a b text turns (lines, read, answers, many) part = (lines, part.0, open_more old mid new lines part.0 read part.1 part.2, answers)
 
-pub all_answered : (old mid new : Option (List ℕ)) (a b : Timed) (text : List ℕ) (turns : ℕ) → HasAnswered old mid a text b turns → TakesOpen mid new
-    → IsAtEnd new → Serves old new a text b (Ok tt)
-all_answered old mid new a b text turns h part end = (some_answered old mid new a b text turns h part, end)
+pub all_answered : (version : BookVersion) (old mid new : Option (List ℕ)) (a b : Timed) (text : List ℕ) (turns : ℕ) → HasAnswered version old mid a text b turns → TakesOpen mid new
+    → IsAtEnd new → Serves version old new a text b (Ok tt)
+all_answered version old mid new a b text turns h part end = (some_answered version old mid new a b text turns h part, end)
 
-pub stopped : (old mid new : Option (List ℕ)) (a b : Timed) (text : List ℕ) (turns : ℕ) (kept : KeptLine) (fault : BookFault)
-    → HasAnswered old mid a text b turns → ReadsLine mid new kept (Err fault) → Serves old new a text b (Err fault)
-stopped old mid new a b text turns kept Line h part = absurd part
-stopped old mid new a b text turns kept Read h part = some_answered old mid new a b text turns h part
-stopped old mid new a b text turns kept Write h part = some_answered old mid new a b text turns h part
+pub stopped : (version : BookVersion) (old mid new : Option (List ℕ)) (a b : Timed) (text : List ℕ) (turns : ℕ) (kept : KeptLine) (fault : BookFault)
+    → HasAnswered version old mid a text b turns → ReadsLine mid new kept (Err fault) → Serves version old new a text b (Err fault)
+stopped version old mid new a b text turns kept Line h part = absurd part
+stopped version old mid new a b text turns kept Read h part = some_answered version old mid new a b text turns h part
+stopped version old mid new a b text turns kept Write h part = some_answered version old mid new a b text turns h part
 
-pub too_many_lines : (old now : Option (List ℕ)) (a b : Timed) (text : List ℕ) (turns : ℕ) → HasAnswered old now a text b turns
-    → Serves old now a text b (Err Read)
-too_many_lines old now a b text turns (lines, read, answers, many) = (lines, [], read, answers)
+pub too_many_lines : (version : BookVersion) (old now : Option (List ℕ)) (a b : Timed) (text : List ℕ) (turns : ℕ) → HasAnswered version old now a text b turns
+    → Serves version old now a text b (Err Read)
+too_many_lines version old now a b text turns (lines, read, answers, many) = (lines, [], read, answers)
 
 -- ---- The end of the reader
 
@@ -183,9 +184,9 @@ many_lines (line ∷ lines) =
     omega (arith, many_lines lines, length-append (line ++ 10 ∷ []) (lines_text lines), length-append line (10 ∷ []))
 
 -- all turns were taken
-pub most_read : (old now : Option (List ℕ)) (a b : Timed) (text : List ℕ) (turns : ℕ) → HasAnswered old now a text b turns → 2 ^ 64 ≤ turns + 1
+pub most_read : (version : BookVersion) (old now : Option (List ℕ)) (a b : Timed) (text : List ℕ) (turns : ℕ) → HasAnswered version old now a text b turns → 2 ^ 64 ≤ turns + 1
     → TakesMost old now
-most_read old now a b text turns (lines, read, answers, many) all =
+most_read version old now a b text turns (lines, read, answers, many) all =
     (lines_text lines ++ [], read.taken, omega (arith, many, all, many_lines lines, length-append (lines_text lines) []))
 
 -- what was read before
@@ -195,9 +196,9 @@ ended_more old mid new taken failed took (inl fault) = inl fault
 ended_more old mid new taken failed took (inr (more, took', many)) =
     inr (taken ++ more, Consumes-trans old mid new taken more took took', omega (arith, many, length-append taken more))
 
-pub ended_after : (old mid new : Option (List ℕ)) (a b : Timed) (text : List ℕ) (turns : ℕ) (failed : Bool) → HasAnswered old mid a text b turns
+pub ended_after : (version : BookVersion) (old mid new : Option (List ℕ)) (a b : Timed) (text : List ℕ) (turns : ℕ) (failed : Bool) → HasAnswered version old mid a text b turns
     → HasEnded mid new failed → HasEnded old new failed
-ended_after old mid new a b text turns failed (lines, read, answers, many) = ended_more old mid new (lines_text lines ++ []) failed read.taken
+ended_after version old mid new a b text turns failed (lines, read, answers, many) = ended_more old mid new (lines_text lines ++ []) failed read.taken
 
 pub ended_after_first : (old mid new : Option (List ℕ)) (first : FirstLine) (ok : List ℕ) (failed : Bool) → Opens old mid ok (Ok first) → HasEnded mid new failed
     → HasEnded old new failed

@@ -1,5 +1,5 @@
 -- What a line says, and how it is answered if it is accepted.
-use Rattle.std.proofs.Common.{◌≡◌, ℕ, List, [], ◌∷◌, ◌++◌, Some, None, Ok, sym, ap, subst, ◌∙◌, flat_map, codes}
+use Rattle.std.proofs.Common.{◌≡◌, ℕ, List, [], ◌∷◌, ◌++◌, Some, None, Ok, refl, sym, ap, subst, ◌∙◌, flat_map, codes}
 use Rattle.hex.specs.Hex.{decode_of}
 use Rattle.ra_stamp.specs.Message.{to_of}
 use Rattle.ra_stamp.specs.declared.entry.Mark.{Mark}
@@ -13,15 +13,16 @@ use Rattle.ra_text.specs.Lines.{mark_line}
 use Rattle.ra_node.specs.Node.{NodeState}
 use Rattle.ra_node.specs.Events.{Event, NodeEvent}
 use Rattle.ra_book.specs.declared.book.event.BookKind.{BookKind}
-use Rattle.ra_book.specs.declared.book.event.BookKind.TheVariants.{Asked, Gave, Got}
+use Rattle.ra_book.specs.declared.book.event.BookKind.TheVariants.{Asked, Gave, Cancelled, Forgot, Got}
 use Rattle.ra_book.specs.History.{node_event, clock_after}
 use Rattle.ra_book_text.specs.declared.answering.line_refusal.Refusal.{Refusal}
 use Rattle.ra_book_text.specs.declared.answering.line_refusal.Refusal.TheVariants as refusal
 use Rattle.ra_book_text.specs.BookText.{Form, HasForm, IsEvent, IsFrameOf, IsUnread}
-use Rattle.ra_book_text.specs.BookText.Form.{Ask, Release, Receive}
+use Rattle.ra_book_text.specs.BookText.Form.{Ask, Release, Cancel, Forget, Receive}
+use Rattle.ra_book_text.specs.declared.next_line.book_version.BookVersion.{BookVersion}
 use Rattle.ra_book_text.specs.Answers.{AreSends, Accepts, send_line}
 use Rattle.ra_book.specs.Timed.{Timed}
-use Rattle.ra_book_text.proofs.Forms.{ask_once, release_once, receive_once, ask_no_release, ask_no_receive, release_no_receive}
+use Rattle.ra_book_text.proofs.Forms.{ask_once, release_once, cancel_once, receive_once, ask_no_release, ask_no_cancel, ask_no_forget, ask_no_receive, release_no_cancel, release_no_forget, release_no_receive, cancel_no_forget, cancel_no_receive, receive_no_forget}
 
 abbrev pub OneFrame : Type 0
 OneFrame = (bytes : List ℕ) (a b : Frame) → IsFrameText bytes a → IsFrameText bytes b → a ≡ b
@@ -33,10 +34,26 @@ OneText = (format : Format) (a b : List ℕ) (frame : Frame) → IsFrameTextOf f
 pub one_event : OneFrame → (line : List ℕ) (a b : BookKind) → IsEvent line a → IsEvent line b → a ≡ b
 one_event law line (Asked c n m) (Asked d o p) g h = ask_once line c d n o m p g h
 one_event law line (Asked c n m) (Gave d o) g h = absurd (ask_no_release line c d n o m g h)
+one_event law line (Asked c n m) (Cancelled d o) g h = absurd (ask_no_cancel line c d n o m g h)
+one_event law line (Asked c n m) Forgot g h = absurd (ask_no_forget line c n m g h)
 one_event law line (Asked c n m) (Got f) g (digits, form, frame) = absurd (ask_no_receive line c n digits m g form)
 one_event law line (Gave c n) (Asked d o p) g h = absurd (ask_no_release line d c o n p h g)
 one_event law line (Gave c n) (Gave d o) g h = release_once line c d n o g h
+one_event law line (Gave c n) (Cancelled d o) g h = absurd (release_no_cancel line c d n o g h)
+one_event law line (Gave c n) Forgot g h = absurd (release_no_forget line c n g h)
 one_event law line (Gave c n) (Got f) g (digits, form, frame) = absurd (release_no_receive line c n digits g form)
+one_event law line (Cancelled c n) (Asked d o p) g h = absurd (ask_no_cancel line d c o n p h g)
+one_event law line (Cancelled c n) (Gave d o) g h = absurd (release_no_cancel line d c o n h g)
+one_event law line (Cancelled c n) (Cancelled d o) g h = cancel_once line c d n o g h
+one_event law line (Cancelled c n) Forgot g h = absurd (cancel_no_forget line c n g h)
+one_event law line (Cancelled c n) (Got f) g (digits, form, frame) = absurd (cancel_no_receive line c n digits g form)
+one_event law line Forgot (Asked d o p) g h = absurd (ask_no_forget line d o p h g)
+one_event law line Forgot (Gave d o) g h = absurd (release_no_forget line d o h g)
+one_event law line Forgot (Cancelled d o) g h = absurd (cancel_no_forget line d o h g)
+one_event law line Forgot Forgot g h = refl
+one_event law line Forgot (Got f) g (digits, form, frame) = absurd (receive_no_forget line digits form g)
+one_event law line (Got f) (Cancelled d o) (digits, form, frame) h = absurd (cancel_no_receive line d o digits h form)
+one_event law line (Got f) Forgot (digits, form, frame) h = absurd (receive_no_forget line digits form h)
 one_event law line (Got f) (Asked d o p) (digits, form, frame) h = absurd (ask_no_receive line d o digits p h form)
 one_event law line (Got f) (Gave d o) (digits, form, frame) h = absurd (release_no_receive line d o digits h form)
 one_event law line (Got f) (Got e) (digits, form, (bytes, has, is)) (digits', form', (bytes', has', is')) =
@@ -48,11 +65,15 @@ one_event law line (Got f) (Got e) (digits, form, (bytes, has, is)) (digits', fo
 its_digits : (line : List ℕ) (kind : BookKind) (digits : List ℕ) → IsEvent line kind → HasForm line (Receive digits) → (frame : Frame) × IsFrameOf digits frame
 its_digits line (Asked c n m) digits g form = absurd (ask_no_receive line c n digits m g form)
 its_digits line (Gave c n) digits g form = absurd (release_no_receive line c n digits g form)
+its_digits line (Cancelled c n) digits g form = absurd (cancel_no_receive line c n digits g form)
+its_digits line Forgot digits g form = absurd (receive_no_forget line digits form g)
 its_digits line (Got f) digits (own, form', frame) form = (f, subst (λ (ds : List ℕ). IsFrameOf ds f) (receive_once line own digits form' form) frame)
 
 its_form : (line : List ℕ) (kind : BookKind) → IsEvent line kind → (form : Form) × HasForm line form
 its_form line (Asked c n m) h = (Ask c n m, h)
 its_form line (Gave c n) h = (Release c n, h)
+its_form line (Cancelled c n) h = (Cancel c n, h)
+its_form line Forgot h = (Forget, h)
 its_form line (Got f) (digits, form, frame) = (Receive digits, form)
 
 abbrev pub NoFault : Type 0
@@ -88,9 +109,9 @@ module _
     same_timed : (a b : Timed) → a.node ≡ b.node → a.clock ≡ b.clock → a ≡ b
     same_timed a b n c = λ i. record { node = n i; clock = c i }
 
-    pub one_answer : (old a b : Timed) (line text other : List ℕ) → Accepts old line text a → Accepts old line other b → (text ≡ other) × (a ≡ b)
-    one_answer old a b line text other g h =
-        let kind = one_event frames line g.reacts.kind h.reacts.kind g.reacts.is_event h.reacts.is_event in
+    pub one_answer : (version : BookVersion) (old a b : Timed) (line text other : List ℕ) → Accepts version old line text a → Accepts version old line other b → (text ≡ other) × (a ≡ b)
+    one_answer version old a b line text other g h =
+        let kind = one_event frames line g.reacts.kind h.reacts.kind g.reacts.is_event.1 h.reacts.is_event.1 in
         let event = events old.node a.node b.node (node_event h.reacts.kind) g.sends h.sends g.marks h.marks
         (subst (λ (k : BookKind). NodeEvent old.node (node_event k) g.sends g.marks a.node) kind g.reacts.takes.event) h.reacts.takes.event in
         let clock : a.clock ≡ b.clock = g.reacts.takes.clock_is ∙ (ap (clock_after old.clock) kind ∙ sym h.reacts.takes.clock_is) in

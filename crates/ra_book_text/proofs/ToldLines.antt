@@ -9,7 +9,7 @@ use Rattle.ra_stamp.specs.Mark.{entry_of_mark, mark_word}
 use Rattle.ra_stamp.specs.Message.{to_of}
 use Rattle.ra_stamp.specs.Mode.{mode_word}
 use Rattle.ra_stamp.specs.declared.entry.Mark.{Mark}
-use Rattle.ra_stamp.specs.declared.entry.Mark.TheVariants.{Requested, Entered, Left}
+use Rattle.ra_stamp.specs.declared.entry.Mark.TheVariants.{Requested, Entered, Left, Withdrawn}
 use Rattle.ra_stamp.specs.declared.message.Message.{Message}
 use Rattle.ra_stamp.specs.declared.message.Message.TheVariants.{Request, Reply}
 use Rattle.ra_frame.specs.FrameText.{IsMessageText}
@@ -50,6 +50,7 @@ word_free : (mark : Mark) → HasNoFeed (mark_word mark)
 word_free (Requested entry) = word (codes "request") refl
 word_free (Entered entry) = word (codes "enter") refl
 word_free (Left entry) = word (codes "leave") refl
+word_free (Withdrawn entry) = word (codes "withdraw") refl
 
 mark_free : (mark : Mark) → IsShown (entry_of_mark mark) → HasNoFeed (mark_word mark ++ entry_fields (entry_of_mark mark))
 mark_free mark h =

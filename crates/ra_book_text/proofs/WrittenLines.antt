@@ -1,5 +1,5 @@
 -- What is written of a book is what it says.
-use Rattle.std.proofs.Common.{◌≡◌, ◌≢◌, ◌<◌, ◌≤◌, ◌^◌, ◌/◌, ◌%◌, ◌==◌, ℕ, true, false, List, [], ◌∷◌, ◌++◌, length, map, refl, sym, ap, subst, ◌∙◌, codes, decimal, arith, append_assoc, zero, suc, ◌+◌}
+use Rattle.std.proofs.Common.{◌≡◌, ◌≢◌, ◌<◌, ◌≤◌, ◌^◌, ◌/◌, ◌%◌, ◌==◌, ℕ, true, false, List, [], ◌∷◌, ◌++◌, length, get_or, map, refl, sym, ap, subst, ◌∙◌, codes, decimal, arith, append_assoc, zero, suc, ◌+◌}
 use Rattle.std.proofs.lemmas.Bool.Decides.{nat_tests}
 use Rattle.std.proofs.lemmas.Fmt.{length-decimal-le}
 use Rattle.std.proofs.lemmas.List.Elements.{All-append, All-cons, All-head, All-nil, All-tail, All-weaker}
@@ -31,13 +31,15 @@ use Rattle.ra_trace.proofs.Cuts.{IsFree}
 use Rattle.ra_trace.proofs.Spelled.{reads_client, reads_mode, reads_name, reads_node, reads_start}
 use Rattle.ra_book.specs.declared.book.event.BookEvent.{BookEvent}
 use Rattle.ra_book.specs.declared.book.event.BookKind.{BookKind}
-use Rattle.ra_book.specs.declared.book.event.BookKind.TheVariants.{Asked, Gave, Got}
+use Rattle.ra_book.specs.declared.book.event.BookKind.TheVariants.{Asked, Gave, Cancelled, Forgot, Got}
 use Rattle.ra_book.specs.Book.{BookState, HasHistory}
 use Rattle.ra_book_text.specs.Book.{lines_text}
-use Rattle.ra_book_text.specs.BookText.{IsFirst, first_text, form_text}
-use Rattle.ra_book_text.specs.BookText.Form.{Ask, Release, Receive}
+use Rattle.ra_book_text.specs.BookText.{AllowsKind, IsFirst, first_text, form_text, version_text}
+use Rattle.ra_book_text.specs.BookText.Form.{Ask, Release, Cancel, Forget, Receive}
+use Rattle.ra_book_text.specs.declared.next_line.book_version.BookVersion.{BookVersion}
+use Rattle.ra_book_text.specs.declared.next_line.book_version.BookVersion.TheVariants.{One, Two}
 use Rattle.ra_book_text.specs.Input.{HasNoFeed}
-use Rattle.ra_book_text.specs.Written.{AddsEvent, AddsLines, IsUnfit, IsWrittenBook, IsWrittenEvent, SaysEvents}
+use Rattle.ra_book_text.specs.Written.{AddsEvent, AddsLines, IsUnfit, IsWrittenBook, IsWrittenEvent, SaysEvents, version_for, version_with}
 
 -- ---- No line feed
 
@@ -116,6 +118,9 @@ ask_length client name mode = let a = length-append (client ++ field name) (fiel
 release_length : (client name : List ℕ) → length (codes "release" ++ field client ++ field name) ≡ 9 + length client + length name
 release_length client name = let a = length-append client (field name) in omega (arith, a)
 
+cancel_length : (client name : List ℕ) → length (codes "cancel" ++ field client ++ field name) ≡ 8 + length client + length name
+cancel_length client name = let a = length-append client (field name) in omega (arith, a)
+
 asker_free : (start : List ℕ) (client : ℕ) (name : List ℕ) → list_all (nat_lt 10) start ≡ true → IsClientNumber client → IsName name
     → HasNoFeed (start ++ field (decimal client) ++ field name)
 asker_free start client name h fits is =
@@ -146,6 +151,20 @@ gave_line client name fits is = record {
   no_feed = asker_free (codes "release") client name refl fits is;
 }
 
+pub cancelled_line : (client : ℕ) (name : List ℕ) → IsClientNumber client → IsName name
+    → IsWrittenEvent (form_text (Cancel client name)) (Cancelled client name)
+cancelled_line client name fits is = record {
+  is_event =
+      let a = cancel_length (decimal client) name in
+      let b = short_client client fits in
+      let d = is.not_long in (omega (arith, a, b, d), (fits, is), refl);
+  spelled = refl;
+  no_feed = asker_free (codes "cancel") client name refl fits is;
+}
+
+pub forgot_line : IsWrittenEvent (form_text Forget) Forgot
+forgot_line = record { is_event = (omega arith, tt, refl); spelled = refl; no_feed = word (codes "forget") refl }
+
 pub got_line : (frame : Frame) (bytes : List ℕ) → IsWrittenText bytes frame → IsBytes bytes → length bytes ≤ 56
     → IsWrittenEvent (form_text (Receive (encode_lower bytes))) (Got frame)
 got_line frame bytes text fits short = record {
@@ -167,17 +186,18 @@ number_free number small = free (decimal number) (reads_start.reads.no_feed numb
 short_node : (node : ℕ) → IsNodeNumber node → length (decimal node) ≤ 2
 short_node node h = let most = h.1 in length-decimal-le 2 node (omega arith) (omega (arith, most)) (omega (arith, most))
 
-first_length : (node nodes start : List ℕ) → length (codes "book 1" ++ field node ++ field nodes ++ field start) ≡ 9 + length node + length nodes + length start
-first_length node nodes start = let a = length-append (node ++ field nodes) (field start) in let b = length-append node (field nodes) in omega (arith, a, b)
+first_length : (version : BookVersion) (node nodes start : List ℕ) → length (version_text version ++ field node ++ field nodes ++ field start) ≡ 9 + length node + length nodes + length start
+first_length One node nodes start = let a = length-append (node ++ field nodes) (field start) in let b = length-append node (field nodes) in omega (arith, a, b)
+first_length Two node nodes start = let a = length-append (node ++ field nodes) (field start) in let b = length-append node (field nodes) in omega (arith, a, b)
 
 member : (node nodes : ℕ) → IsNodeNumber nodes → (1 ≤ node) × (node ≤ nodes) → IsNodeNumber node
 member node nodes count in_it = let most = count.1 in (in_it.0, omega (arith, in_it.1, most))
 
-pub first_line : (node nodes start : ℕ) → IsNodeNumber nodes → (1 ≤ node) × (node ≤ nodes) → start < 2 ^ 64
-    → IsFirst (first_text node nodes start) node nodes start
-first_line node nodes start count in_it begins = record {
+pub first_line : (version : BookVersion) (node nodes start : ℕ) → IsNodeNumber nodes → (1 ≤ node) × (node ≤ nodes) → start < 2 ^ 64
+    → IsFirst (first_text version node nodes start) version node nodes start
+first_line version node nodes start count in_it begins = record {
   short =
-      let a = first_length (decimal node) (decimal nodes) (decimal start) in
+      let a = first_length version (decimal node) (decimal nodes) (decimal start) in
       let b = short_node node (member node nodes count in_it) in
       let c = short_node nodes count in
       let d = length-decimal-le 20 start (omega arith) (omega (arith, begins)) begins in omega (arith, a, b, c, d);
@@ -187,14 +207,54 @@ first_line node nodes start count in_it begins = record {
   text_is = refl;
 }
 
-pub first_free : (node nodes start : ℕ) → IsNodeNumber nodes → (1 ≤ node) × (node ≤ nodes) → start < 2 ^ 64 → HasNoFeed (first_text node nodes start)
-first_free node nodes start count in_it begins =
-    both (codes "book 1" ++ field (decimal node) ++ field (decimal nodes)) (field (decimal start))
-    (both (codes "book 1" ++ field (decimal node)) (field (decimal nodes))
-    (both (codes "book 1") (field (decimal node)) (word (codes "book 1") refl)
+version_free : (version : BookVersion) → HasNoFeed (version_text version)
+version_free One = word (codes "book 1") refl
+version_free Two = word (codes "book 2") refl
+
+pub first_free : (version : BookVersion) (node nodes start : ℕ) → IsNodeNumber nodes → (1 ≤ node) × (node ≤ nodes) → start < 2 ^ 64 → HasNoFeed (first_text version node nodes start)
+first_free version node nodes start count in_it begins =
+    both (version_text version ++ field (decimal node) ++ field (decimal nodes)) (field (decimal start))
+    (both (version_text version ++ field (decimal node)) (field (decimal nodes))
+    (both (version_text version) (field (decimal node)) (version_free version)
     (field_free (decimal node) (free (decimal node) (reads_node.reads.no_feed node (member node nodes count in_it)))))
     (field_free (decimal nodes) (free (decimal nodes) (reads_node.reads.no_feed nodes count))))
     (field_free (decimal start) (free (decimal start) (reads_start.reads.no_feed start begins)))
+
+-- ---- The version
+
+stays_two : (kind : BookKind) → version_with kind Two ≡ Two
+stays_two (Asked client name mode) = refl
+stays_two (Gave client name) = refl
+stays_two (Cancelled client name) = refl
+stays_two Forgot = refl
+stays_two (Got frame) = refl
+
+is_two : (kind : BookKind) (rest : BookVersion) → (AllowsKind One kind → ⊥) → version_with kind rest ≡ Two
+is_two (Asked client name mode) rest not = absurd (not tt)
+is_two (Gave client name) rest not = absurd (not tt)
+is_two (Cancelled client name) rest not = refl
+is_two Forgot rest not = refl
+is_two (Got frame) rest not = absurd (not tt)
+
+is_rest : (kind : BookKind) (rest : BookVersion) → AllowsKind One kind → version_with kind rest ≡ rest
+is_rest (Asked client name mode) rest is = refl
+is_rest (Gave client name) rest is = refl
+is_rest (Cancelled client name) rest is = absurd is
+is_rest Forgot rest is = absurd is
+is_rest (Got frame) rest is = refl
+
+-- an event that no book of version 1 has makes the book one of version 2
+pub version_two : (events : List BookEvent) (i : ℕ) (event : BookEvent) → i < length events → get_or events i event ≡ event → (AllowsKind One event.kind → ⊥) → Two ≡ version_for events
+version_two [] i event low at not = absurd (omega (arith, low))
+version_two (e ∷ events) zero event low at not = sym (is_two e.kind (version_for events) (λ ok. not (subst (λ (x : BookEvent). AllowsKind One x.kind) at ok)))
+version_two (e ∷ events) (suc i) event low at not =
+    sym (ap (version_with e.kind) (sym (version_two events i event (omega (arith, low)) at not)) ∙ stays_two e.kind)
+
+pub version_one : (events : List BookEvent) → All (λ event. AllowsKind One event.kind) events → One ≡ version_for events
+version_one [] all = refl
+version_one (e ∷ events) all =
+    version_one events (All-tail (λ (x : BookEvent). AllowsKind One x.kind) e events all)
+    ∙ sym (is_rest e.kind (version_for events) (All-head (λ (x : BookEvent). AllowsKind One x.kind) e events all))
 
 -- ---- One line after the other
 
@@ -225,17 +285,17 @@ one_more old new first events event (lines, are, says) (line, one, adds) = (
 -- the first line, and the lines of the events
 pub whole_book : (book : BookState) (text : List ℕ) (lines : List (List ℕ)) → HasHistory book → book.start < 2 ^ 64
     → AllZip IsWrittenEvent lines (map (λ (e : BookEvent). e.kind) book.events)
-    → text ≡ (first_text book.me book.nodes book.start ++ codes "\n") ++ lines_text lines
+    → text ≡ (first_text (version_for book.events) book.me book.nodes book.start ++ codes "\n") ++ lines_text lines
     → (lines : List (List ℕ)) × IsWrittenBook lines book × AddsLines [] text lines
 whole_book book text lines kept below are is =
-    let line = first_text book.me book.nodes book.start in (
+    let line = first_text (version_for book.events) book.me book.nodes book.start in (
       line ∷ lines,
       record {
         first = line;
         events = lines;
         lines_are = refl;
-        is_first = first_line book.me book.nodes book.start kept.count kept.member below;
-        no_feed = first_free book.me book.nodes book.start kept.count kept.member below;
+        is_first = first_line (version_for book.events) book.me book.nodes book.start kept.count kept.member below;
+        no_feed = first_free (version_for book.events) book.me book.nodes book.start kept.count kept.member below;
         are_events = are;
       },
       is,
@@ -250,6 +310,8 @@ frame_fits bytes clock (Reply from to name seq) h = record { clock = h.clock_ran
 event_fits : (line : List ℕ) (kind : BookKind) → IsWrittenEvent line kind → IsUnfit kind → ⊥
 event_fits line (Asked client name mode) h unfit = unfit
 event_fits line (Gave client name) h unfit = unfit
+event_fits line (Cancelled client name) h unfit = unfit
+event_fits line Forgot h unfit = unfit
 event_fits line (Got frame) h unfit = let (bytes, text, is) = h.spelled in unfit (frame_fits bytes frame.clock frame.message text)
 
 all_fit : (lines : List (List ℕ)) (events : List BookEvent) → AllZip IsWrittenEvent lines (map (λ event. event.kind) events)

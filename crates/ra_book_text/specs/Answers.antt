@@ -17,7 +17,8 @@ use Rattle.ra_book.specs.declared.error.BookError.{BookError}
 use Rattle.ra_book.specs.declared.error.BookError.TheVariants as error
 use Rattle.ra_book_text.specs.declared.answering.line_refusal.Refusal.{Refusal}
 use Rattle.ra_book_text.specs.declared.answering.line_refusal.Refusal.TheVariants as refusal
-use Rattle.ra_book_text.specs.BookText.{IsEvent, IsUnread}
+use Rattle.ra_book_text.specs.BookText.{IsEventIn, IsTooNew, IsUnread}
+use Rattle.ra_book_text.specs.declared.next_line.book_version.BookVersion.{BookVersion}
 use Rattle.ra_book.specs.Timed.{Timed, Takes, Refuses}
 
 -- the word of why an event is refused
@@ -27,6 +28,7 @@ event_word (error.Frame fault) = frame.word_of fault
 event_word error.Busy = codes "Busy"
 event_word error.Exhausted = codes "Exhausted"
 event_word error.NotHeld = codes "NotHeld"
+event_word error.NotWaiting = codes "NotWaiting"
 event_word error.WrongNode = codes "WrongNode"
 event_word error.Stranger = codes "Stranger"
 event_word error.ClockFull = codes "ClockFull"
@@ -71,33 +73,34 @@ pub record IsPosted (clock : ℕ) (sends : List Message) (marks : List Mark) (te
   pub marks_are : AreShown marks
   pub text_is : text ≡ sent ++ flat_map mark_line marks ++ codes "ok\n"
 
--- the line is an event that the node takes, and it sends and marks this
-pub record Reacts (old : Timed) (line : List ℕ) (sends : List Message) (marks : List Mark) (new : Timed) : Type 0 where
+-- the line is an event of a book of this version that the node takes, and it sends and marks this
+pub record Reacts (version : BookVersion) (old : Timed) (line : List ℕ) (sends : List Message) (marks : List Mark) (new : Timed) : Type 0 where
   pub kind : BookKind
-  pub is_event : IsEvent line kind
+  pub is_event : IsEventIn version line kind
   pub takes : Takes old kind sends marks new
 
--- the line is no event, or one that is refused; the node is as it was
-pub record Stays (old : Timed) (line : List ℕ) (new : Timed) (why : Refusal) : Type 0 where
-  pub cause : IsUnread line why ⊎ ((kind : BookKind) × (cause : BookError) × (why ≡ refusal.Event cause) × IsEvent line kind × Refuses old kind cause)
+-- the line is no event of a book of this version, or one that is refused; the node is as it was
+pub record Stays (version : BookVersion) (old : Timed) (line : List ℕ) (new : Timed) (why : Refusal) : Type 0 where
+  pub cause : IsUnread line why ⊎ (((why ≡ refusal.Line) × IsTooNew version line)
+      ⊎ ((kind : BookKind) × (cause : BookError) × (why ≡ refusal.Event cause) × IsEventIn version line kind × Refuses old kind cause))
   pub new_is : new ≡ old
 
 -- the node takes the line, and this is the answer
-pub record Accepts (old : Timed) (line text : List ℕ) (new : Timed) : Type 0 where
+pub record Accepts (version : BookVersion) (old : Timed) (line text : List ℕ) (new : Timed) : Type 0 where
   pub sends : List Message
   pub marks : List Mark
-  pub reacts : Reacts old line sends marks new
+  pub reacts : Reacts version old line sends marks new
   pub posted : IsPosted new.clock sends marks text
 
 -- the line is refused, and this is the answer
-pub record Denies (old : Timed) (line text : List ℕ) (new : Timed) : Type 0 where
+pub record Denies (version : BookVersion) (old : Timed) (line text : List ℕ) (new : Timed) : Type 0 where
   pub why : Refusal
-  pub stays : Stays old line new why
+  pub stays : Stays version old line new why
   pub text_is : text ≡ refused_line why
 
--- the answer to a line, and what the node is after it
-abbrev pub Answers : Timed → List ℕ → List ℕ → Timed → Type 0
-Answers old line text new = Accepts old line text new ⊎ Denies old line text new
+-- the answer to a line of a book of this version, and what the node is after it
+abbrev pub Answers : BookVersion → Timed → List ℕ → List ℕ → Timed → Type 0
+Answers version old line text new = Accepts version old line text new ⊎ Denies version old line text new
 
 -- a line that a node was handed, and its answer: the node accepted the line, or refused it
 pub data Answered : Type 0 where
@@ -119,12 +122,12 @@ lines_of all = map line_of all
 abbrev pub text_of : List Answered → List ℕ
 text_of all = flat_map answer_of all
 
--- The node is handed these lines, one after the other, answers each of them so, and is then this one. A line that it
+-- The node is handed these lines of a book of this version, one after the other, answers each of them so, and is then this one. A line that it
 -- refuses leaves it as it was.
-abbrev pub AnswersEach : Timed → List Answered → Timed → Type 0
-AnswersEach old [] new = new ≡ old
-AnswersEach old (Accepted line answer ∷ all) new = (next : Timed) × Accepts old line answer next × AnswersEach next all new
-AnswersEach old (Refused line answer ∷ all) new = Denies old line answer old × AnswersEach old all new
+abbrev pub AnswersEach : BookVersion → Timed → List Answered → Timed → Type 0
+AnswersEach version old [] new = new ≡ old
+AnswersEach version old (Accepted line answer ∷ all) new = (next : Timed) × Accepts version old line answer next × AnswersEach version next all new
+AnswersEach version old (Refused line answer ∷ all) new = Denies version old line answer old × AnswersEach version old all new
 
 -- the book that is kept: the lines that the node accepted, each with its very answer, in order; none that it refused
 abbrev pub kept_of : List Answered → List Answered
@@ -133,6 +136,6 @@ kept_of (Accepted line answer ∷ all) = Accepted line answer ∷ kept_of all
 kept_of (Refused line answer ∷ all) = kept_of all
 
 -- this text is the answers to these lines, in order, and the node is this one after them
-abbrev pub AnswersAll : Timed → List (List ℕ) → List ℕ → Timed → Type 0
-AnswersAll old lines text new =
-    (all : List Answered) × (lines ≡ lines_of all) × (text ≡ text_of all) × AnswersEach old all new
+abbrev pub AnswersAll : BookVersion → Timed → List (List ℕ) → List ℕ → Timed → Type 0
+AnswersAll version old lines text new =
+    (all : List Answered) × (lines ≡ lines_of all) × (text ≡ text_of all) × AnswersEach version old all new

@@ -4,7 +4,8 @@ use Rattle.std.specs.Io.KnownBytes.{Appends, Consumes, IsAtEnd}
 use Rattle.ra_book_text.specs.declared.error.BookFault.{BookFault}
 use Rattle.ra_book_text.specs.declared.error.BookFault.TheVariants.{Line, Read, Write}
 use Rattle.ra_book_text.specs.declared.answering.line_refusal.Refusal.TheVariants as refusal
-use Rattle.ra_book_text.specs.BookText.{IsFirst}
+use Rattle.ra_book_text.specs.BookText.{IsFirst, IsNoFirst}
+use Rattle.ra_book_text.specs.declared.next_line.book_version.BookVersion.{BookVersion}
 use Rattle.ra_book.specs.Timed.{Timed, opening}
 use Rattle.ra_book_text.specs.Answers.{AnswersAll, refused_line}
 use Rattle.ra_book_text.specs.Input.{HasNoFeed}
@@ -19,17 +20,18 @@ pub record HasRead (old new : Option (List ℕ)) (lines : List (List ℕ)) (part
   pub each : All HasNoFeed lines
   pub rest : HasNoFeed part
 
--- the answers to a book of which these lines are known: `ok` to its first line, and then those of its node
+-- the answers to a book of which these lines are known: `ok` to its first line, and then those of its node in this version
 abbrev pub AnswersBook : List (List ℕ) → List ℕ → Type 0
 AnswersBook [] text = text ≡ []
 AnswersBook (line ∷ lines) text =
-    (node : ℕ) × (nodes : ℕ) × (start : ℕ) × (new : Timed) × (rest : List ℕ) × IsFirst line node nodes start
-    × (text ≡ codes "ok\n" ++ rest) × AnswersAll (opening node nodes start) lines rest new
+    (version : BookVersion) × (node : ℕ) × (nodes : ℕ) × (start : ℕ) × (new : Timed) × (rest : List ℕ)
+    × IsFirst line version node nodes start
+    × (text ≡ codes "ok\n" ++ rest) × AnswersAll version (opening node nodes start) lines rest new
 
 -- what was read is no book: its first line is not that of a book, or it ends before its first line feed
 abbrev pub IsNoBook : Option (List ℕ) → Option (List ℕ) → Type 0
 IsNoBook old new =
-    ((line : List ℕ) × HasRead old new (line ∷ []) [] × ((node nodes start : ℕ) → IsFirst line node nodes start → ⊥))
+    ((line : List ℕ) × HasRead old new (line ∷ []) [] × IsNoFirst line)
     ⊎ ((part : List ℕ) × HasRead old new [] part × IsAtEnd new)
 
 -- what was read is a book so far, and these are the answers to its lines

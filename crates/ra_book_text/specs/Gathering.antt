@@ -9,7 +9,8 @@ use Rattle.ra_book.specs.declared.error.SettleError.TheVariants.{NotSent, Twice}
 use Rattle.ra_book.specs.declared.book.event.BookKind.{BookKind}
 use Rattle.ra_book.specs.Book.{BookState, HasHistory, opening_book, with_event}
 use Rattle.ra_book.specs.Settled.{HasUnsent, IsCluster, all_received}
-use Rattle.ra_book_text.specs.BookText.{IsEvent, IsFirst}
+use Rattle.ra_book_text.specs.BookText.{IsEventIn, IsFirst}
+use Rattle.ra_book_text.specs.declared.next_line.book_version.BookVersion.{BookVersion}
 use Rattle.ra_book_text.specs.declared.text_settling.came_frames.Came.{Came}
 use Rattle.ra_book_text.specs.declared.text_settling.settle_error.SettleTextError.{SettleTextError}
 use Rattle.ra_book_text.specs.declared.text_settling.settle_error.SettleTextError.TheVariants as fault
@@ -40,18 +41,21 @@ books_of g = g.earlier.items ++ g.last ∷ []
 -- the lines were read, and this was gathered, with room for the last book after the earlier ones
 pub record IsGathered (lines : List (List ℕ)) (g : Gathered) : Type 0 where
   pub right : AreRight lines (books_of g)
+  pub version_is : g.version ≡ right.version
   pub came_is : g.came.items ≡ came_in (books_of g)
   pub room : vec_len g.earlier < vec_capacity g.earlier
 
 -- a first line begins a book beside those before it
 pub record IsOpened (old : Gathered) (line : List ℕ) (new : Gathered) : Type 0 where
+  pub version : BookVersion
   pub node : ℕ
   pub nodes : ℕ
   pub start : ℕ
-  pub is_first : IsFirst line node nodes start
+  pub is_first : IsFirst line version node nodes start
   pub beside : All (IsBeside node nodes start) (books_of old)
   pub earlier_is : new.earlier.items ≡ books_of old
   pub last_is : new.last ≡ opening_book node nodes start
+  pub version_is : new.version ≡ version
   pub came_is : new.came.items ≡ old.came.items
   pub history : HasHistory new.last
   pub room : vec_len new.earlier < vec_capacity new.earlier
@@ -59,40 +63,42 @@ pub record IsOpened (old : Gathered) (line : List ℕ) (new : Gathered) : Type 0
 -- an event happens in the last book
 pub record HasHappened (old : Gathered) (number : ℕ) (line : List ℕ) (new : Gathered) : Type 0 where
   pub kind : BookKind
-  pub is_event : IsEvent line kind
+  pub is_event : IsEventIn old.version line kind
+  pub version_is : new.version ≡ old.version
   pub taken : HasTaken old.last kind new.last
   pub earlier_is : new.earlier ≡ old.earlier
   pub came_is : new.came.items ≡ old.came.items ++ came_by number kind
 
 -- the line is right: it begins a book beside those before it
 pub record IsRightFirst (old : Gathered) (line : List ℕ) : Type 0 where
+  pub version : BookVersion
   pub node : ℕ
   pub nodes : ℕ
   pub start : ℕ
-  pub is_first : IsFirst line node nodes start
+  pub is_first : IsFirst line version node nodes start
   pub beside : All (IsBeside node nodes start) (books_of old)
 
 -- the line is right: it is an event that the node of the last book takes, or took
 pub record IsRightEvent (old : Gathered) (line : List ℕ) (new : Gathered) : Type 0 where
   pub kind : BookKind
-  pub is_event : IsEvent line kind
+  pub is_event : IsEventIn old.version line kind
   pub takes : CanTake old.last kind ⊎ HasTaken old.last kind new.last
 
 -- how the line of this number is taken: it is taken, or it is wrong, or it is right and memory ran out
 abbrev pub TakesLine : Gathered → ℕ → List ℕ → Gathered → Result (Unit {0}) LineFault → Type 0
 TakesLine old number line new (Ok done) = IsOpened old line new ⊎ HasHappened old number line new
-TakesLine old number line new (Err (line_fault.Wrong why)) = IsWrongLine (books_of old) line why
+TakesLine old number line new (Err (line_fault.Wrong why)) = IsWrongLine old.version (books_of old) line why
 TakesLine old number line new (Err line_fault.Memory) = IsRightFirst old line ⊎ IsRightEvent old line new
 
 -- the same of a first line, and of another line
 abbrev pub TakesEvent : Gathered → ℕ → List ℕ → Gathered → Result (Unit {0}) LineFault → Type 0
 TakesEvent old number line new (Ok done) = HasHappened old number line new
-TakesEvent old number line new (Err (line_fault.Wrong why)) = IsWrongLine (books_of old) line why
+TakesEvent old number line new (Err (line_fault.Wrong why)) = IsWrongLine old.version (books_of old) line why
 TakesEvent old number line new (Err line_fault.Memory) = IsRightEvent old line new
 
 abbrev pub TakesFirst : Gathered → List ℕ → Gathered → Result (Unit {0}) LineFault → Type 0
 TakesFirst old line new (Ok done) = IsOpened old line new
-TakesFirst old line new (Err (line_fault.Wrong why)) = IsWrongLine (books_of old) line why
+TakesFirst old line new (Err (line_fault.Wrong why)) = IsWrongLine old.version (books_of old) line why
 TakesFirst old line new (Err line_fault.Memory) = IsRightFirst old line
 
 -- ---- What is read of a text

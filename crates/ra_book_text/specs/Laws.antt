@@ -13,7 +13,8 @@ use Rattle.ra_book_text.specs.Input.{HasNoFeed}
 use Rattle.ra_book.specs.History.{Posting, clock_of}
 use Rattle.ra_book.specs.declared.error.BookError.TheVariants as error
 use Rattle.ra_book_text.specs.declared.answering.line_refusal.Refusal.TheVariants as refusal
-use Rattle.ra_book_text.specs.BookText.{IsEvent, IsFirst}
+use Rattle.ra_book_text.specs.BookText.{IsEvent, IsFirst, AreReadIn}
+use Rattle.ra_book_text.specs.declared.next_line.book_version.BookVersion.{BookVersion}
 use Rattle.ra_book.specs.Timed.{Timed, opening}
 use Rattle.ra_book_text.specs.Answers.{Answered, AnswersEach, IsPosted, kept_of, lines_of, refused_line, send_line, text_of}
 use Rattle.ra_book_text.specs.Answers.Answered.{Accepted, Refused}
@@ -42,8 +43,8 @@ pub record Driven : Type 0 where
 
 -- the first line made the node, and it answered the others so
 abbrev pub IsDriven : Driven → Type 0
-IsDriven driven = (node : ℕ) × (nodes : ℕ) × (start : ℕ) × IsFirst driven.first node nodes start
-    × AnswersEach (opening node nodes start) driven.answered driven.end
+IsDriven driven = (version : BookVersion) × (node : ℕ) × (nodes : ℕ) × (start : ℕ) × IsFirst driven.first version node nodes start
+    × AnswersEach version (opening node nodes start) driven.answered driven.end
 
 -- the book that is kept of it: the first line, and the lines that were accepted
 abbrev pub book_lines : Driven → List (List ℕ)
@@ -90,6 +91,8 @@ marks_told (IsDone ∷ told) = marks_told told
 -- sent, and the marks in them are its marks.
 pub record IsBookOf (driven : Driven) (book : BookState) : Type 0 where
   pub said : AllZip Says (book_lines driven) (said_by book)
+  -- each line is read in the version of the first
+  pub read_in : (version : BookVersion) × ((before : BookVersion) → AreReadIn before (book_lines driven) version)
   pub is_read : IsRead book
   pub leads : LeadsTo book driven.end.node
   pub clock_is : clock_of book.events ≡ driven.end.clock

@@ -4,7 +4,8 @@ use Rattle.std.specs.Io.KnownBytes.{IsAtEnd}
 use Rattle.ra_book_text.specs.declared.error.BookFault.{BookFault}
 use Rattle.ra_book_text.specs.declared.error.BookFault.TheVariants.{Line, Read, Write}
 use Rattle.ra_book_text.specs.declared.answering.line_refusal.Refusal.TheVariants as refusal
-use Rattle.ra_book_text.specs.BookText.{IsFirst}
+use Rattle.ra_book_text.specs.BookText.{IsFirst, IsNoFirst}
+use Rattle.ra_book_text.specs.declared.next_line.book_version.BookVersion.{BookVersion}
 use Rattle.ra_book.specs.Timed.{Timed}
 use Rattle.ra_book_text.specs.declared.next_line.first_line.FirstLine.{FirstLine}
 use Rattle.ra_book_text.specs.Answers.{AnswersAll, refused_line}
@@ -12,12 +13,12 @@ use Rattle.ra_book_text.specs.Book.{HasRead, IsNoBook}
 
 -- the line says this as the first one of a book
 abbrev pub SaysFirst : List ℕ → FirstLine → Type 0
-SaysFirst line first = IsFirst line first.member.node first.member.nodes first.start
+SaysFirst line first = IsFirst line first.version first.member.node first.member.nodes first.start
 
 -- the answer to this first line
 abbrev pub OpensBy : List ℕ → List ℕ → Result FirstLine BookFault → Type 0
 OpensBy line text (Ok first) = SaysFirst line first × (text ≡ codes "ok\n")
-OpensBy line text (Err Line) = ((node nodes start : ℕ) → IsFirst line node nodes start → ⊥) × (text ≡ refused_line refusal.Line)
+OpensBy line text (Err Line) = IsNoFirst line × (text ≡ refused_line refusal.Line)
 OpensBy line text (Err Read) = ⊥
 OpensBy line text (Err Write) = ⊥
 
@@ -29,13 +30,13 @@ Opens old new text (Err Read) = (part : List ℕ) × HasRead old new [] part × 
 Opens old new text (Err Write) = (part : List ℕ) × HasRead old new [] part × (text ≡ [])
 
 -- lines were read, with these answers, and then bytes without a line feed
-abbrev pub AnswersSome : Option (List ℕ) → Option (List ℕ) → Timed → List ℕ → Timed → Type 0
-AnswersSome old new before text after =
-    (lines : List (List ℕ)) × (part : List ℕ) × HasRead old new lines part × AnswersAll before lines text after
+abbrev pub AnswersSome : BookVersion → Option (List ℕ) → Option (List ℕ) → Timed → List ℕ → Timed → Type 0
+AnswersSome version old new before text after =
+    (lines : List (List ℕ)) × (part : List ℕ) × HasRead old new lines part × AnswersAll version before lines text after
 
 -- the lines after the first were read, with these answers
-abbrev pub Serves : Option (List ℕ) → Option (List ℕ) → Timed → List ℕ → Timed → Result (Unit {0}) BookFault → Type 0
-Serves old new before text after (Ok done) = AnswersSome old new before text after × IsAtEnd new
-Serves old new before text after (Err Line) = ⊥
-Serves old new before text after (Err Read) = AnswersSome old new before text after
-Serves old new before text after (Err Write) = AnswersSome old new before text after
+abbrev pub Serves : BookVersion → Option (List ℕ) → Option (List ℕ) → Timed → List ℕ → Timed → Result (Unit {0}) BookFault → Type 0
+Serves version old new before text after (Ok done) = AnswersSome version old new before text after × IsAtEnd new
+Serves version old new before text after (Err Line) = ⊥
+Serves version old new before text after (Err Read) = AnswersSome version old new before text after
+Serves version old new before text after (Err Write) = AnswersSome version old new before text after

@@ -5,14 +5,16 @@ use Rattle.std.specs.List.Sorted.{IsPermutation}
 use Rattle.ra_stamp.specs.declared.entry.Entry.{Entry}
 use Rattle.ra_automaton.specs.State.{IsForNode}
 use Rattle.ra_node.specs.Node.{resource_at}
-use Rattle.ra_node.specs.Resource.{Holds}
+use Rattle.ra_node.specs.Resource.{Holds, IsKeptWaiting}
 use Rattle.ra_node.specs.Turns.{MayAsk}
 use Rattle.ra_book.specs.declared.book.event.BookKind.{BookKind}
-use Rattle.ra_book.specs.declared.book.event.BookKind.TheVariants.{Asked, Gave, Got}
+use Rattle.ra_book.specs.declared.book.event.BookKind.TheVariants.{Asked, Gave, Cancelled, Forgot, Got}
 use Rattle.ra_book.specs.Book.{BookState, HasClock, HasHistory, IsWhole, Runs}
 use Rattle.ra_book.specs.Settled.{IsCluster, frames_in}
 use Rattle.ra_book_text.specs.Book.{lines_text}
-use Rattle.ra_book_text.specs.BookText.{IsEvent, IsFirst}
+use Rattle.ra_book_text.specs.BookText.{IsEvent, IsFirst, AreReadIn}
+use Rattle.ra_book_text.specs.declared.next_line.book_version.BookVersion.{BookVersion}
+use Rattle.ra_book_text.specs.declared.next_line.book_version.BookVersion.TheVariants.{One}
 use Rattle.ra_book_text.specs.Input.{HasNoFeed}
 use Rattle.ra_book_text.specs.declared.text_settling.came_frames.Came.{Came}
 
@@ -27,13 +29,13 @@ pub record Begins (text : List ℕ) (lines : List (List ℕ)) (rest : List ℕ) 
 abbrev pub IsText : List ℕ → List (List ℕ) → Type 0
 IsText text lines = (part : List ℕ) × Begins text lines part × HasNoFeed part
 
--- what a line says: a book of this node begins, or this happens at the node
+-- what a line says: a book of this node begins, in some version, or this happens at the node
 pub data Said : Type 0 where
   Opens : (node : ℕ) → (nodes : ℕ) → (start : ℕ) → Said
   Happens : (kind : BookKind) → Said
 
 abbrev pub Says : List ℕ → Said → Type 0
-Says line (Opens node nodes start) = IsFirst line node nodes start
+Says line (Opens node nodes start) = (version : BookVersion) × IsFirst line version node nodes start
 Says line (Happens kind) = IsEvent line kind
 
 -- ---- Books
@@ -61,8 +63,12 @@ IsBeside node nodes start book = (book.me ≢ node) × (book.nodes ≡ nodes) ×
 abbrev pub AreBeside : List BookState → Type 0
 AreBeside books = AllPairs (λ a b. IsBeside b.me b.nodes b.start a) books
 
--- the lines are right so far: they are these books, each a history, and the books are of different nodes of one cluster
+-- The lines are right so far: they are these books, each a history, and the books are of different nodes of one cluster. Each event
+-- is one of the version that the first line of its book names. The last of these versions is this one. (Before the first of these
+-- lines there is no book, and no event.)
 pub record AreRight (lines : List (List ℕ)) (books : List BookState) : Type 0 where
+  pub version : BookVersion
+  pub read_in : AreReadIn One lines version
   pub lines_are : AreLinesOf lines books
   pub each : All IsRead books
   pub beside : AreBeside books
@@ -75,13 +81,16 @@ pub record AreWhole (lines : List (List ℕ)) (books ordered : List BookState) :
 
 -- ---- What happens
 
--- the node of the book takes this event: the client may ask, or it holds what it leaves, or the frame is for this node and
--- from another one; and a clock is left for it
+-- the node of the book takes this event: the client may ask, holds what it leaves, or waits or is queued for what it gives up, or the
+-- frame is for this node and from another one; and a clock is left for it
 abbrev pub CanTake : BookState → BookKind → Type 0
 CanTake book (Asked client name mode) =
     Runs book (λ node. MayAsk (resource_at node name) client × HasClock book (Asked client name mode))
 CanTake book (Gave client name) =
     Runs book (λ node. ((entry : Entry) × Holds (resource_at node name) client entry) × HasClock book (Gave client name))
+CanTake book (Cancelled client name) =
+    Runs book (λ node. IsKeptWaiting (resource_at node name) client × HasClock book (Cancelled client name))
+CanTake book Forgot = (book.fault ≡ None) × HasClock book Forgot
 CanTake book (Got frame) = (book.fault ≡ None) × IsForNode book.me book.nodes frame.message × HasClock book (Got frame)
 
 -- the frame that comes by an event in this line, if one does

@@ -10,7 +10,8 @@ use Rattle.ra_book.specs.Book.{BookState}
 use Rattle.ra_book.specs.Repeats.{IsSettledRunWithCopies}
 use Rattle.ra_book.specs.declared.settle_books.settled.Settled.{Settled}
 use Rattle.ra_book.specs.Settled.{BooksFit, HasUnsent, IsSettledOrder, IsSettledRun, Placed, WasSent, settled_steps, start_of}
-use Rattle.ra_book_text.specs.BookText.{Form, HasForm, IsEvent, IsFirst, IsUnread}
+use Rattle.ra_book_text.specs.BookText.{Form, HasForm, IsEventIn, IsFirst, IsNoFirst, IsTooNew, IsUnread}
+use Rattle.ra_book_text.specs.declared.next_line.book_version.BookVersion.{BookVersion}
 use Rattle.ra_book_text.specs.Input.{HasNoFeed}
 use Rattle.ra_book_text.specs.declared.answering.line_refusal.Refusal.{Refusal}
 use Rattle.ra_book_text.specs.declared.answering.line_refusal.Refusal.TheVariants as refusal
@@ -24,29 +25,30 @@ use Rattle.ra_book_text.specs.Texts.{AreRight, AreWhole, Begins, CanTake, IsBesi
 
 -- ---- A wrong line, after lines that are right
 
--- it is not the first line of a book; and there is no book yet, or it has none of the forms of events
-abbrev pub IsNoLine : List BookState → List ℕ → Type 0
-IsNoLine books line = ((node nodes start : ℕ) → IsFirst line node nodes start → ⊥)
-    × ((books ≡ []) ⊎ ((form : Form) → HasForm line form → ⊥))
+-- it is not the first line of a book; and there is no book yet, or it has none of the forms of events, or that of an event which a book
+-- of the last version does not have
+abbrev pub IsNoLine : BookVersion → List BookState → List ℕ → Type 0
+IsNoLine version books line = IsNoFirst line
+    × ((books ≡ []) ⊎ (((form : Form) → HasForm line form → ⊥) ⊎ IsTooNew version line))
 
 -- it is the first line of a book that is not beside one of those before it
 abbrev pub IsOfAnother : List BookState → List ℕ → Type 0
-IsOfAnother books line = (node : ℕ) × (nodes : ℕ) × (start : ℕ) × IsFirst line node nodes start
+IsOfAnother books line = (version : BookVersion) × (node : ℕ) × (nodes : ℕ) × (start : ℕ) × IsFirst line version node nodes start
     × Any (λ book. IsBeside node nodes start book → ⊥) books
 
 -- its digits stand for no frame, or it is an event that the node of the last book does not take
-abbrev pub IsRefused : List BookState → List ℕ → Type 0
-IsRefused books line = (earlier : List BookState) × (last : BookState) × (books ≡ earlier ++ last ∷ [])
+abbrev pub IsRefused : BookVersion → List BookState → List ℕ → Type 0
+IsRefused version books line = (earlier : List BookState) × (last : BookState) × (books ≡ earlier ++ last ∷ [])
     × (((why : Refusal) × (why ≢ refusal.Line) × IsUnread line why)
-    ⊎ ((kind : BookKind) × IsEvent line kind × (CanTake last kind → ⊥)))
+    ⊎ ((kind : BookKind) × IsEventIn version line kind × (CanTake last kind → ⊥)))
 
--- why a line is wrong after these books
-abbrev pub IsWrongLine : List BookState → List ℕ → TextCause → Type 0
-IsWrongLine books line cause.Line = IsNoLine books line
-IsWrongLine books line cause.Books = IsOfAnother books line
-IsWrongLine books line cause.Refused = IsRefused books line
-IsWrongLine books line cause.NotSent = ⊥
-IsWrongLine books line cause.Twice = ⊥
+-- why a line is wrong after these books, the last of which is of this version
+abbrev pub IsWrongLine : BookVersion → List BookState → List ℕ → TextCause → Type 0
+IsWrongLine version books line cause.Line = IsNoLine version books line
+IsWrongLine version books line cause.Books = IsOfAnother books line
+IsWrongLine version books line cause.Refused = IsRefused version books line
+IsWrongLine version books line cause.NotSent = ⊥
+IsWrongLine version books line cause.Twice = ⊥
 
 -- the line of this number, counted from 1, is the first wrong one, for this cause
 pub record IsWrongAt (text : List ℕ) (number : ℕ) (why : TextCause) : Type 0 where
@@ -57,7 +59,7 @@ pub record IsWrongAt (text : List ℕ) (number : ℕ) (why : TextCause) : Type 0
   pub number_is : number ≡ length before + 1
   pub books : List BookState
   pub right : AreRight before books
-  pub wrong : IsWrongLine books line why
+  pub wrong : IsWrongLine right.version books line why
 
 -- ---- A text all of whose lines are right
 

@@ -9,10 +9,12 @@ use Rattle.ra_text.specs.declared.draft.Draft.{Draft}
 use Rattle.ra_text.specs.Drafting.{Adds, Says}
 use Rattle.ra_book.specs.declared.book.event.BookEvent.{BookEvent}
 use Rattle.ra_book.specs.declared.book.event.BookKind.{BookKind}
-use Rattle.ra_book.specs.declared.book.event.BookKind.TheVariants.{Asked, Gave, Got}
+use Rattle.ra_book.specs.declared.book.event.BookKind.TheVariants.{Asked, Gave, Cancelled, Forgot, Got}
 use Rattle.ra_book.specs.Book.{BookState}
 use Rattle.ra_book_text.specs.BookText.{IsEvent, IsFirst, form_text}
-use Rattle.ra_book_text.specs.BookText.Form.{Ask, Release, Receive}
+use Rattle.ra_book_text.specs.BookText.Form.{Ask, Release, Cancel, Forget, Receive}
+use Rattle.ra_book_text.specs.declared.next_line.book_version.BookVersion.{BookVersion}
+use Rattle.ra_book_text.specs.declared.next_line.book_version.BookVersion.TheVariants.{One, Two}
 use Rattle.ra_book_text.specs.Input.{HasNoFeed}
 use Rattle.ra_book_text.specs.Book.{lines_text}
 
@@ -20,6 +22,8 @@ use Rattle.ra_book_text.specs.Book.{lines_text}
 abbrev pub IsSpelled : List ℕ → BookKind → Type 0
 IsSpelled line (Asked client name mode) = line ≡ form_text (Ask client name mode)
 IsSpelled line (Gave client name) = line ≡ form_text (Release client name)
+IsSpelled line (Cancelled client name) = line ≡ form_text (Cancel client name)
+IsSpelled line Forgot = line ≡ form_text Forget
 IsSpelled line (Got frame) = (bytes : List ℕ) × IsWrittenText bytes frame × (line ≡ form_text (Receive (encode_lower bytes)))
 
 -- the line is this event, spelled so, and has no line feed
@@ -28,12 +32,24 @@ pub record IsWrittenEvent (line : List ℕ) (kind : BookKind) : Type 0 where
   pub spelled : IsSpelled line kind
   pub no_feed : HasNoFeed line
 
+-- the version in which these events are written: the second if a client gave up or the node forgot names, and otherwise the first
+abbrev pub version_with : BookKind → BookVersion → BookVersion
+version_with (Asked client name mode) rest = rest
+version_with (Gave client name) rest = rest
+version_with (Cancelled client name) rest = Two
+version_with Forgot rest = Two
+version_with (Got frame) rest = rest
+
+abbrev pub version_for : List BookEvent → BookVersion
+version_for [] = One
+version_for (event ∷ events) = version_with event.kind (version_for events)
+
 -- the lines are the first line of the book, and then its events in order
 pub record IsWrittenBook (lines : List (List ℕ)) (book : BookState) : Type 0 where
   pub first : List ℕ
   pub events : List (List ℕ)
   pub lines_are : lines ≡ first ∷ events
-  pub is_first : IsFirst first book.me book.nodes book.start
+  pub is_first : IsFirst first (version_for book.events) book.me book.nodes book.start
   pub no_feed : HasNoFeed first
   pub are_events : AllZip IsWrittenEvent events (map (λ event. event.kind) book.events)
 
@@ -45,6 +61,8 @@ AddsLines old new lines = new ≡ old ++ lines_text lines
 abbrev pub IsUnfit : BookKind → Type 0
 IsUnfit (Asked client name mode) = ⊥
 IsUnfit (Gave client name) = ⊥
+IsUnfit (Cancelled client name) = ⊥
+IsUnfit Forgot = ⊥
 IsUnfit (Got frame) = Fits frame → ⊥
 
 -- ---- Only private contracts and proofs speak of it.

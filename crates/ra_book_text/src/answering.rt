@@ -17,7 +17,7 @@ use crate::answering::answer_line::answer_line;
 use crate::answering::line_refusal::refused_line;
 use crate::answering::waiting_output::{Output, flush, put};
 use crate::next_line::{Input, next_line};
-use crate::{BookFault, FirstLine, Refusal, TimedNode};
+use crate::{BookFault, BookVersion, FirstLine, Refusal, TimedNode};
 use std::alloc::Global;
 use std::io::{BufRead, Write};
 
@@ -25,8 +25,8 @@ use std::io::{BufRead, Write};
 ///
 /// # Errors
 ///
-/// `Line`: it is not that of a book, or the input ends before it. This was put out. `Read`: the reader failed. `Write`: the
-/// writer failed.
+/// `Line`: it is not that of a book, or the input ends before it. This was put out. `Read`: the reader failed. `Write`:
+/// the writer failed.
 fn take_first<B: BufRead, W: Write>(
     reader: &mut B,
     input: &mut Input,
@@ -37,7 +37,8 @@ fn take_first<B: BufRead, W: Write>(
     ensures opens { (text : List ℕ) × Opens (B.remaining reader.old) (B.remaining reader.new) text result
         × Puts (W.contents writer.old) (W.contents writer.new) out.old out.new text }
     ensures unfailed { OnOk result (input.new.failed ≡ false) }
-    ensures reader { IsErrOf result BookFault.Read → HasEnded (B.remaining reader.old) (B.remaining reader.new) input.new.failed }
+    ensures reader { IsErrOf result BookFault.Read
+        → HasEnded (B.remaining reader.old) (B.remaining reader.new) input.new.failed }
     ensures writer { IsErrOf result BookFault.Write → out.new.failed ≡ true }
 {
     // No `?`, which is dearer to prove: each clause would be carried over to the answer that it makes.
@@ -62,13 +63,14 @@ fn take_first<B: BufRead, W: Write>(
     }
 }
 
-/// Reads the lines after the first, and puts out their answers.
+/// Reads the lines after the first in this version, and puts out their answers.
 ///
 /// # Errors
 ///
 /// `Read`: the reader failed. `Write`: the writer failed.
 fn take_events<B: BufRead, W: Write>(
     alloc: Global,
+    version: BookVersion,
     node: &mut TimedNode,
     reader: &mut B,
     input: &mut Input,
@@ -76,9 +78,11 @@ fn take_events<B: BufRead, W: Write>(
     out: &mut Output,
 ) -> Result<(), BookFault>
     requires { input.old.failed ≡ false }
-    ensures serves { (text : List ℕ) × Serves (B.remaining reader.old) (B.remaining reader.new) node.old text node.new result
+    ensures serves { (text : List ℕ)
+        × Serves version (B.remaining reader.old) (B.remaining reader.new) node.old text node.new result
         × Puts (W.contents writer.old) (W.contents writer.new) out.old out.new text }
-    ensures reader { IsErrOf result BookFault.Read → HasEnded (B.remaining reader.old) (B.remaining reader.new) input.new.failed }
+    ensures reader { IsErrOf result BookFault.Read
+        → HasEnded (B.remaining reader.old) (B.remaining reader.new) input.new.failed }
     ensures writer { IsErrOf result BookFault.Write → out.new.failed ≡ true }
 {
     for _line in 0..u64::MAX {
@@ -90,7 +94,7 @@ fn take_events<B: BufRead, W: Write>(
         if !is_there {
             return Ok(());
         }
-        answer_line(alloc, node, &input.line, writer, out);
+        answer_line(alloc, version, node, &input.line, writer, out);
     }
     Err(BookFault::Read)
 }
@@ -112,13 +116,14 @@ fn answer_from<B: BufRead, W: Write>(
     ensures answered { (text : List ℕ) × IsOwed (B.remaining reader.old) (B.remaining reader.new) text result
         × IsWritten (W.contents writer.old) (W.contents writer.new) text result }
     // Only after a fault of the reader is `Read` answered, and exactly after one of the writer `Write`.
-    ensures reader { IsErrOf result BookFault.Read → HasEnded (B.remaining reader.old) (B.remaining reader.new) input.new.failed }
+    ensures reader { IsErrOf result BookFault.Read
+        → HasEnded (B.remaining reader.old) (B.remaining reader.new) input.new.failed }
     ensures writer { IsErrOf result BookFault.Write ↔ (out.new.failed ≡ true) }
 {
     let taken = match take_first(reader, input, writer, out) {
         Ok(first) => {
             let mut node = TimedNode::new(alloc, first.member, first.start);
-            take_events(alloc, &mut node, reader, input, writer, out)
+            take_events(alloc, first.version, &mut node, reader, input, writer, out)
         }
         Err(fault) => Err(fault),
     };
@@ -129,13 +134,13 @@ fn answer_from<B: BufRead, W: Write>(
     }
 }
 
-/// Reads a book, hands each event to its node, and writes the answer to each line. The answer is `ok` to the first line. To an
-/// event it is a line `send TO HEX` for each frame, the lines of its marks, and `ok`. Or it is `refused` and a word, after which
-/// the node is as before. What is answered is written and passed on before more input is waited for; while the reader shows more,
-/// it need not be. A last line without a line feed is not answered.
+/// Reads a book, hands each event to its node, and writes the answer to each line. The answer is `ok` to the first
+/// line. To an event it is a line `send TO HEX` for each frame, the lines of its marks, and `ok`. Or it is `refused`
+/// and a word, after which the node is as before. What is answered is written and passed on before more input is waited
+/// for; while the reader shows more, it need not be. A last line without a line feed is not answered.
 ///
-/// It keeps the node and its clock, at most 256 bytes of a line, and up to 16,384 bytes of answers. A line that is refused for lack of
-/// memory can come again. It reads at most 2^64 - 1 lines, and as many pieces of each.
+/// It keeps the node and its clock, at most 256 bytes of a line, and up to 16,384 bytes of answers. A line that is
+/// refused for lack of memory can come again. It reads at most 2^64 - 1 lines, and as many pieces of each.
 ///
 /// # Errors
 ///

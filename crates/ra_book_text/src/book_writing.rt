@@ -8,10 +8,11 @@ ghost use Rattle.ra_text.specs.Drafting.{Adds};
 ghost use Rattle.ra_text.specs.Lines.{field};
 ghost use Rattle.ra_trace.specs.TraceText.{IsClientNumber};
 ghost use Rattle.ra_book.specs.declared.book.event.BookKind.{BookKind};
-ghost use Rattle.ra_book_text.specs.Written.{AddsEvent, AddsLines, IsUnfit, IsWrittenBook};
+ghost use Rattle.ra_book_text.specs.Written.{AddsEvent, AddsLines, IsUnfit, IsWrittenBook, version_for};
 ghost use Rattle.ra_book_text.specs.declared.book_writing.WriteBookError.{WriteBookError};
 
-use ra_book::{Book, BookKind};
+use crate::BookVersion;
+use ra_book::{Book, BookEvent, BookKind};
 use ra_frame::{Frame, MAX_FRAME, encoded};
 use ra_stamp::{Memory, Name};
 use ra_text::Draft;
@@ -109,8 +110,31 @@ fn push_event(text: &mut Draft, kind: &BookKind) -> bool
             text.end_line();
             true
         }
+        BookKind::Cancelled { client, name } => {
+            push_client(text, "cancel", *client, name);
+            text.end_line();
+            true
+        }
         BookKind::Got(frame) => push_frame(text, frame),
+        BookKind::Forgot => {
+            text.push("forget");
+            text.end_line();
+            true
+        }
     }
+}
+
+/// Returns the version in which these events are written: the first one that has all of them. The cost is linear in
+/// their number.
+fn version_of(events: &[BookEvent]) -> BookVersion
+    ensures { result ≡ version_for events.now }
+{
+    for event in events {
+        if !BookVersion::One.allows(&event.kind) {
+            return BookVersion::Two;
+        }
+    }
+    BookVersion::One
 }
 
 /// Returns the text of a book: its first line, and then the lines of its events, in order.
@@ -124,7 +148,8 @@ fn book_text(alloc: Global, book: &Book) -> Result<String, WriteBookError>
     ensures unfit { IsErrOf result WriteBookError.Unfit ↔ Any (λ event. IsUnfit event.kind) book.now.events }
 {
     let mut text = Draft::new(alloc);
-    text.push("book 1");
+    let version = version_of(book.events().as_slice());
+    text.push(version.words());
     text.push_number(book.me().get());
     text.push_number(book.nodes());
     text.push_number(book.start());
@@ -137,9 +162,10 @@ fn book_text(alloc: Global, book: &Book) -> Result<String, WriteBookError>
     Ok(text.finish()?)
 }
 
-/// Adds the text of a book, which `ra settle` reads as this book: its first line, and then a line for each event in order. The
-/// frames that came are in version 2, in lower case. What the node sent is in no line, as the events decide it, nor are the
-/// frames that are flagged lost, a fault, or what was taken from the book. The cost is linear in the number of events, and the
+/// Adds the text of a book, which `ra settle` reads as this book: its first line, and then a line for each event in
+/// order. It is of version 2 if a client gave up or the node forgot names, and otherwise of version 1. The frames that
+/// came are in version 2, in lower case. What the node sent is in no line, as the events decide it, nor are the frames
+/// that are flagged lost, a fault, or what was taken from the book. The cost is linear in the number of events, and the
 /// text grows in amortized linear time. The book is written by itself first, so it takes room for its text twice.
 ///
 /// # Errors

@@ -1,5 +1,6 @@
 //! The next line of the input.
 pub mod book_fields;
+pub mod book_version;
 pub mod event_line;
 pub mod first_line;
 pub mod input_piece;
@@ -39,8 +40,8 @@ impl Input {
     }
 }
 
-/// Reads the next line in place of the one that is there, and returns whether there is one. What waits to be written is written before the
-/// reader is asked for more than it shows. It does not allocate.
+/// Reads the next line in place of the one that is there, and returns whether there is one. What waits to be written is
+/// written before the reader is asked for more than it shows. It does not allocate.
 ///
 /// # Errors
 ///
@@ -56,7 +57,8 @@ pub fn next_line<B: BufRead, W: Write>(
     ensures puts { Puts (W.contents writer.old) (W.contents writer.new) out.old out.new [] }
     ensures unfailed { OnOk result (input.new.failed ≡ false) }
     // Only after a fault of the reader is `Read` answered, and only after one of the writer `Write`.
-    ensures reader { IsErrOf result BookFault.Read → HasEnded (B.remaining reader.old) (B.remaining reader.new) input.new.failed }
+    ensures reader { IsErrOf result BookFault.Read
+        → HasEnded (B.remaining reader.old) (B.remaining reader.new) input.new.failed }
     ensures writer { IsErrOf result BookFault.Write → out.new.failed ≡ true }
 {
     input.line.clear();

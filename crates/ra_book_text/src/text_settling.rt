@@ -94,9 +94,9 @@ fn settle_ordered(
     }
 }
 
-/// Settles the books that were gathered from a text, in which the line after the last one would have this number, with what came to
-/// them. It puts them in the order of their nodes, which takes no memory. They are borrowed, so that each is dropped in one place
-/// only.
+/// Settles the books that were gathered from a text, in which the line after the last one would have this number, with
+/// what came to them. It puts them in the order of their nodes, which takes no memory. They are borrowed, so that each
+/// is dropped in one place only.
 ///
 /// # Errors
 ///
@@ -153,6 +153,7 @@ fn settle_gathered(
     let Gathered {
         earlier,
         last,
+        version: _,
         came,
     } = gathered;
     let mut books = earlier;
@@ -172,13 +173,14 @@ fn settle_lines(alloc: Global, text: &[u8], repeats: bool) -> Result<SettledText
     settle_gathered(alloc, gathered, next, repeats)
 }
 
-/// Reads the books of all nodes, one after the other in one text, and settles them into one run. Each begins with its first line,
-/// and they may be in any order of the nodes. A last line without a line feed is passed over. With `repeats` a message may come
-/// more than once: a frame that comes n times is repeated n - 1 times in the run, as [`settle_with_copies`] says.
+/// Reads the books of all nodes, one after the other in one text, and settles them into one run. Each begins with its
+/// first line, and they may be in any order of the nodes. A last line without a line feed is passed over. With
+/// `repeats` a message may come more than once: a frame that comes n times is repeated n - 1 times in the run, as
+/// [`settle_with_copies`] says.
 ///
-/// It keeps the books, and the frames that came with the numbers of their lines, so that memory is linear in the text. With n
-/// lines the cost is that of the events at their nodes, and of [`settle`], which is n log n at most. If memory for an index is
-/// lacking, to look for `Twice` takes quadratic time.
+/// It keeps the books, and the frames that came with the numbers of their lines, so that memory is linear in the text.
+/// With n lines the cost is that of the events at their nodes, and of [`settle`], which is n log n at most. If memory
+/// for an index is lacking, to look for `Twice` takes quadratic time.
 ///
 /// # Errors
 ///
@@ -186,21 +188,24 @@ fn settle_lines(alloc: Global, text: &[u8], repeats: bool) -> Result<SettledText
 ///
 /// 1. `Invalid` with `Line`, `Books` or `Refused`, at the first wrong line. Without a line it is `Line` at line 1.
 /// 2. `Invalid` with `Books`, at the number of lines plus 1: the book of a node is missing.
-/// 3. `Invalid` with `NotSent`, at the first line by which a frame comes that is not among those that its sender's book sent with
-///    its clock.
-/// 4. `Invalid` with `Twice`, without `repeats`, at the first line by which a message comes that came by an earlier line.
-/// 5. `Memory`: it ran out at a line that is right, and no line after it was looked at; or it ran out after all lines, and then no
-///    book is missing and each frame that came was sent.
+/// 3. `Invalid` with `NotSent`, at the first line by which a frame comes that is not among those that its sender's book
+///    sent with its clock.
+/// 4. `Invalid` with `Twice`, without `repeats`, at the first line by which a message comes that came by an earlier
+///    line.
+/// 5. `Memory`: it ran out at a line that is right, and no line after it was looked at; or it ran out after all lines,
+///    and then no book is missing and each frame that came was sent.
 pub fn settle_text(
     alloc: Global,
     text: &[u8],
     repeats: bool,
 ) -> Result<SettledText, SettleTextError>
-    // The books are those of a cluster, and this is their one run, with the main theorem. Without `repeats` they fit together.
+    // The books are those of a cluster, and this is their one run, with the main theorem. Without `repeats` they fit
+    // together.
     ensures settled { IfOk result (IsSettledText repeats text.now) }
     // A refusal comes only for its cause, at its line.
     ensures refused { IfErr result (IsUnsettled repeats text.now) }
-    // It is Ok exactly if the books fit, and if a cause holds, its refusal comes, except that `Memory` may come instead.
+    // It is Ok exactly if the books fit, and if a cause holds, its refusal comes, except that `Memory` may come
+    // instead.
     ensures fit { OnOk result (HasFittingBooks repeats text.now) }
     ensures settles { HasFittingBooks repeats text.now → IsOkUnless result SettleTextError.Memory }
     ensures found { (line : ℕ) (cause : TextCause) → IsWrong repeats text.now line cause

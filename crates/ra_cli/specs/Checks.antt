@@ -3,7 +3,7 @@ use Rattle.std.specs.Prelude.{◌≡◌, ℕ, List, ◌++◌, Bool, true, false,
 use Rattle.std.specs.Io.KnownBytes.{Consumes, Appends}
 use Rattle.ra_text.specs.Lines.{field, total_line}
 use Rattle.ra_trace.specs.declared.checker.verdict.Cause.{Cause}
-use Rattle.ra_trace.specs.declared.checker.verdict.Cause.TheVariants.{Line, Refused, NotUnderWay, Marks, Table}
+use Rattle.ra_trace.specs.declared.checker.verdict.Cause.TheVariants.{Line, Refused, NotUnderWay, Sends, Marks, Table}
 use Rattle.ra_trace.specs.declared.checker.verdict.Verdict.{Verdict}
 use Rattle.ra_trace.specs.declared.checker.verdict.Verdict.TheVariants.{Valid, Invalid}
 use Rattle.ra_trace.specs.Verdict.{IsVerdict}
@@ -22,6 +22,7 @@ abbrev pub cause_word : Cause → List ℕ
 cause_word Line = codes "Line"
 cause_word Refused = codes "Refused"
 cause_word NotUnderWay = codes "NotUnderWay"
+cause_word Sends = codes "Sends"
 cause_word Marks = codes "Marks"
 cause_word Table = codes "Table"
 

@@ -37,7 +37,8 @@ pub enum AnswerError {
     Write,
 }
 
-/// Why a script was not run by threads to its end, or not under many seeds, in the order in which the causes are looked for.
+/// Why a script was not run by threads to its end, or not under many seeds, in the order in which the causes are looked
+/// for.
 #[derive(Clone, Copy)]
 pub enum RunScriptError {
     /// The reader failed.

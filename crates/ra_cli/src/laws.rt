@@ -16,15 +16,18 @@ ghost use Rattle.ra_cli.specs.Tasks.{Does, IsCauseFor};
 use ra_schedule::{scripts_come_to_rest, seeds_finish_ordered_scripts};
 use ra_script::{choices_have_words_unless_messages_are_repeated, read_scripts_come_to_rest};
 
-/// Let the clients of a script take names in ascending order and give them all back, let no message be lost or repeated,
-/// and let the choices not be listed. Then `ra sim` finishes the script: status 3 can't come, by one policy or under each
-/// of many seeds. If no choices are given either, the script is refused for lack of memory only, unless the reader or the
-/// writer fails. And whatever the script, no turn is refused.
+/// Let the clients of a script take names in ascending order and give them all back, let no message be lost or
+/// repeated, and let the choices not be listed. Then `ra sim` finishes the script: status 3 can't come, by one policy
+/// or under each of many seeds. If no choices are given either, the script is refused for lack of memory only, unless
+/// the reader or the writer fails. And whatever the script, no turn is refused.
 pub fn orderly_scripts_are_finished()
-    ensures finished { (asked : Task) (input : List ℕ) (new before after : Option (List ℕ)) (status : ℕ) → RunsFaithfully asked → IsOrderly input
+    ensures finished { (asked : Task) (input : List ℕ) (new before after : Option (List ℕ)) (status : ℕ)
+        → RunsFaithfully asked → IsOrderly input
         → Does asked (Some input) new before after status → status ≢ 3 }
-    ensures only_memory { (asked : Task) (input : List ℕ) (new before after : Option (List ℕ)) (status : ℕ) → RunsFaithfully asked → HasNoChoices asked
-        → IsOrderly input → Does asked (Some input) new before after status → status ≡ 2 → Appends before after (refused_line (codes "Memory")) }
+    ensures only_memory { (asked : Task) (input : List ℕ) (new before after : Option (List ℕ)) (status : ℕ)
+        → RunsFaithfully asked → HasNoChoices asked
+        → IsOrderly input → Does asked (Some input) new before after status → status ≡ 2
+        → Appends before after (refused_line (codes "Memory")) }
     ensures driven { (asked : Task) (old new : Option (List ℕ)) (cause : DriveError) → RunsFaithfully asked
         → ¬ IsCauseFor asked old new (CommandRefusal.Perform (PerformError.Drive cause)) }
 {
@@ -34,11 +37,13 @@ pub fn orderly_scripts_are_finished()
     choices_have_words_unless_messages_are_repeated();
 }
 
-/// Whatever the command, its status is 0 to 3. Status 2 comes only with one line: `refused` and the word of a refusal, which
-/// is not that the reader or the writer failed.
+/// Whatever the command, its status is 0 to 3. Status 2 comes only with one line: `refused` and the word of a refusal,
+/// which is not that the reader or the writer failed.
 pub fn statuses_are_known()
-    ensures range { (asked : Command) (old new before after : Option (List ℕ)) (status : ℕ) → DoesCommand asked old new before after status
+    ensures range { (asked : Command) (old new before after : Option (List ℕ)) (status : ℕ)
+        → DoesCommand asked old new before after status
         → status ≤ 3 }
-    ensures refused { (asked : Command) (old new before after : Option (List ℕ)) (status : ℕ) → DoesCommand asked old new before after status
+    ensures refused { (asked : Command) (old new before after : Option (List ℕ)) (status : ℕ)
+        → DoesCommand asked old new before after status
         → status ≡ 2 → IsRefused before after }
 {}

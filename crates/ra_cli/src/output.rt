@@ -63,8 +63,8 @@ fn written<W: Write>(writer: &mut W, text: &[u8], status: u8) -> u8
     }
 }
 
-/// Prints a text and returns the outcome. If the writer fails, it returns the status for that without a remark. It does not
-/// allocate.
+/// Prints a text and returns the outcome. If the writer fails, it returns the status for that without a remark. It does
+/// not allocate.
 pub fn print_text<W: Write>(writer: &mut W, text: &[u8], outcome: CommandOutcome) -> CommandOutcome
     ensures { Writes text.now outcome.status (W.contents writer.old) (W.contents writer.new) result.status }
 {
@@ -107,10 +107,11 @@ fn is_of_the_reader(refusal: CommandRefusal) -> bool
     )
 }
 
-/// Prints the line of a refusal and returns the outcome, with status 1 if the reader or the writer failed, and otherwise 2.
-/// After a fault of the writer it prints nothing. It does not allocate.
+/// Prints the line of a refusal and returns the outcome, with status 1 if the reader or the writer failed, and
+/// otherwise 2. After a fault of the writer it prints nothing. It does not allocate.
 pub fn refuse<W: Write>(writer: &mut W, refusal: CommandRefusal) -> CommandOutcome
-    ensures { PrintsRefusal refusal (W.contents writer.old) (W.contents writer.new) (writer.new ≡ writer.old) result.status }
+    ensures { PrintsRefusal refusal (W.contents writer.old) (W.contents writer.new)
+        (writer.new ≡ writer.old) result.status }
 {
     let remark = Some(Remark::Refused(refusal));
     if is_of_the_writer(refusal) {

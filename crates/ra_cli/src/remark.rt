@@ -1,11 +1,10 @@
 //! What a note tells a person about the outcome of a command.
 use crate::refusal_lines::CommandRefusal;
 use ra_book_text::TextCause;
-use ra_stamp::Mark;
-use ra_trace::{Cause, MarkCause};
+use ra_trace::{Cause, Line, MarkCause};
 
-/// What a note tells a person about the outcome of a command. A note is made of it when everything else is done, so that it
-/// takes no part in what is printed.
+/// What a note tells a person about the outcome of a command. A note is made of it when everything else is done, so
+/// that it takes no part in what is printed.
 #[derive(Clone, Copy)]
 pub enum Remark {
     /// It was refused.
@@ -16,12 +15,12 @@ pub enum Remark {
     SomeUnfinished,
     /// The run of each seed ended so, and a finished one was looked for.
     NoneFinished,
-    /// The text is not a trace: its first wrong line, and why. If it is wrong for its marks, the one that is due there, if one is;
-    /// of a text to be drawn that is not told.
+    /// The text is not a trace: its first wrong line, and why. If it is wrong for its sends or its marks, the line that
+    /// is due there, if one is; of a text to be drawn that is not told.
     NoTrace {
         line: u64,
         cause: Cause,
-        due: Option<Mark>,
+        due: Option<Line>,
     },
     /// The books of a text do not settle: the line that is wrong, and why.
     Unsettled {

@@ -23,9 +23,9 @@ use std::io::{BufRead, Write};
 use std::sync::Wait;
 use std::thread::Threads;
 
-/// Does a command other than `cluster`, which [`run_by_threads`] does, and returns its outcome. It starts no thread, and
-/// waits for nobody but the reader and the writer. The observer learns of each seed. A text that is to be drawn or settled
-/// is left in `text`, unless that is refused.
+/// Does a command other than `cluster`, which [`run_by_threads`] does, and returns its outcome. It starts no thread,
+/// and waits for nobody but the reader and the writer. The observer learns of each seed. A text that is to be drawn or
+/// settled is left in `text`, unless that is refused.
 pub fn do_alone<R: BufRead, W: Write, O: Observer>(
     alloc: Global,
     asked: &Command<'_>,
@@ -82,7 +82,9 @@ pub fn serve<T: Threads + Wait + Sync, R: BufRead, W: Write>(
     reader: &mut R,
     writer: &mut W,
 ) -> u8
-    ensures { Serves (helps_of ANSWER_HELP.now SIM_HELP.now CLUSTER_HELP.now CHECK_HELP.now DRAW_HELP.now NODE_HELP.now SETTLE_HELP.now SUMMARY_HELP.now STATUS_HELP.now)
+    ensures { Serves
+        (helps_of ANSWER_HELP.now SIM_HELP.now CLUSTER_HELP.now CHECK_HELP.now DRAW_HELP.now NODE_HELP.now SETTLE_HELP.now
+        SUMMARY_HELP.now STATUS_HELP.now)
         (map string_bytes arguments.now) (R.remaining reader.old) (R.remaining reader.new)
         (W.contents writer.old) (W.contents writer.new) (reader.new ≡ reader.old) result }
 {

@@ -20,7 +20,7 @@ use Rattle.ra_book.specs.Settled.{IsSettledOrder, IsSettledRun, Placed, IsGrante
 use Rattle.ra_cluster.specs.Outcome.{first_fault, AreOf, AreSound, ChecksScript, IsOutcome, IsDone, IsOfThreads, RefusesReport, RefusesSound}
 use Rattle.ra_book.proofs.Causes.{not_all, not_apart}
 use Rattle.ra_book.proofs.SettledReport.{from_zero}
-use Rattle.ra_cluster.proofs.LockCounts.{waits_for_none, requests_are_locks, messages_are}
+use Rattle.ra_cluster.proofs.LockCounts.{waits_for_none, requests_are_locks, withdraws_none, messages_are}
 
 -- ---- Refusals
 
@@ -113,7 +113,9 @@ done_by books script grants settled outcome met =
       unrepeated = unrepeated;
       none_waits = waits_for_none script.nodes script settled.report theorem met.0;
       requests = requests;
-      count = messages_are script.nodes script settled.report theorem met.1 unrepeated met.0 requests;
+      count =
+          messages_are script.nodes script settled.report theorem met.1 unrepeated
+          (withdraws_none _ _ outcome.moves script settled.report outcome.reports met.0) met.0 requests;
     }
 
 -- those of the books, with their outcome

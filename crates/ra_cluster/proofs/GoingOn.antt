@@ -22,7 +22,7 @@ use Rattle.ra_schedule.specs.Orderly.{HoldsName, WaitsForName, IsInOrder, TakeNa
 use Rattle.ra_schedule.specs.Orderly as any
 use Rattle.ra_book.specs.declared.book.event.BookEvent.{BookEvent}
 use Rattle.ra_book.specs.declared.book.event.BookKind.{BookKind}
-use Rattle.ra_book.specs.declared.book.event.BookKind.TheVariants.{Asked, Gave, Got}
+use Rattle.ra_book.specs.declared.book.event.BookKind.TheVariants.{Asked, Gave, Cancelled, Got, Forgot}
 use Rattle.ra_book.specs.declared.book.sent.Sent.{Sent}
 use Rattle.ra_book.specs.History.{IsHistory, node_event}
 use Rattle.ra_book.specs.Book.{BookState, whole_events, HasHistory, LeadsTo}
@@ -94,7 +94,9 @@ split_at (e ∷ events) (z ∷ xs) ys x is =
 asked_kind : (kind : BookKind) (client : ℕ) (name : List ℕ) (mode : Mode) → node_event kind ≡ AskedFor client name mode → kind ≡ Asked client name mode
 asked_kind (Asked c r m) client name mode is = cc
 asked_kind (Gave c r) client name mode is = absurd cc
+asked_kind (Cancelled c r) client name mode is = absurd cc
 asked_kind (Got frame) client name mode is = absurd cc
+asked_kind Forgot client name mode is = absurd cc
 
 happened_behind : (i : ℕ) (before after : List Move) → happened_at i (before ++ after) ≡ happened_at i before ++ happened_at i after
 happened_behind i [] after = refl

@@ -8,7 +8,7 @@ use Rattle.std.proofs.lemmas.List.Sums.{sum_by-cons}
 use Rattle.std.proofs.lemmas.Option.{slice_get-get_or}
 use Rattle.ra_stamp.specs.declared.entry.Entry.{Entry}
 use Rattle.ra_stamp.specs.declared.entry.Mark.{Mark}
-use Rattle.ra_stamp.specs.declared.entry.Mark.TheVariants.{Requested, Entered, Left}
+use Rattle.ra_stamp.specs.declared.entry.Mark.TheVariants.{Requested, Entered, Left, Withdrawn}
 use Rattle.ra_table.specs.Table.{LockTable, Gains, TableSteps, TableRun, empty_table}
 use Rattle.ra_schedule.specs.declared.script.Op.{Op}
 use Rattle.ra_schedule.specs.declared.script.Op.TheVariants.{Lock, Unlock}
@@ -17,7 +17,7 @@ use Rattle.ra_world.specs.declared.text.report.Report.{Report}
 use Rattle.ra_world.specs.Traffic.{Move}
 use Rattle.ra_world.specs.World.{Reports}
 use Rattle.ra_world.specs.MainTheorem.{MainTheorem}
-use Rattle.ra_world.specs.Quiet.{requests_in}
+use Rattle.ra_world.specs.Quiet.{requests_in, withdrawn_in}
 use Rattle.ra_cluster.specs.Plan.{client_of_mark, marks_of_client, FollowsOps, MeetsPlanOf, MeetsPlan, IsQuietEnd, locks_in, locks_of}
 use Rattle.ra_cluster.proofs.Planned.{filter_none, met_names}
 
@@ -27,22 +27,40 @@ abbrev weight : (Mark → ℕ) → List Mark → ℕ
 weight w [] = 0
 weight w (mark ∷ marks) = w mark + weight w marks
 
--- 1 for each request, and for each grant
+-- 1 for each request
 abbrev request : Mark → ℕ
 request (Requested entry) = 1
 request (Entered entry) = 0
 request (Left entry) = 0
+request (Withdrawn entry) = 0
 
-abbrev grant : Mark → ℕ
-grant (Requested entry) = 0
-grant (Entered entry) = 1
-grant (Left entry) = 0
+-- for each request that waits no longer
+abbrev no_longer : Mark → ℕ
+no_longer (Requested entry) = 0
+no_longer (Entered entry) = 1
+no_longer (Left entry) = 0
+no_longer (Withdrawn entry) = 1
+
+-- and for each request and each withdrawal
+abbrev request_or_withdrawal : Mark → ℕ
+request_or_withdrawal (Requested entry) = 1
+request_or_withdrawal (Entered entry) = 0
+request_or_withdrawal (Left entry) = 0
+request_or_withdrawal (Withdrawn entry) = 1
 
 requests_are : (marks : List Mark) → requests_in marks ≡ weight request marks
 requests_are [] = refl
 requests_are (Requested entry ∷ marks) = omega (arith, requests_are marks)
 requests_are (Entered entry ∷ marks) = omega (arith, requests_are marks)
 requests_are (Left entry ∷ marks) = omega (arith, requests_are marks)
+requests_are (Withdrawn entry ∷ marks) = omega (arith, requests_are marks)
+
+both_are : (marks : List Mark) → requests_in marks + withdrawn_in marks ≡ weight request_or_withdrawal marks
+both_are [] = refl
+both_are (Requested entry ∷ marks) = omega (arith, both_are marks)
+both_are (Entered entry ∷ marks) = omega (arith, both_are marks)
+both_are (Left entry ∷ marks) = omega (arith, both_are marks)
+both_are (Withdrawn entry ∷ marks) = omega (arith, both_are marks)
 
 -- ---- Of the lock table
 
@@ -50,9 +68,9 @@ gained : (old : List Entry) (e : Entry) (new : List Entry) → Gains old e new �
 gained old e new (prefix, suffix, old_is, new_is) =
     omega (arith, ap length old_is, ap length new_is, length-append prefix suffix, length-append prefix (e ∷ suffix))
 
--- a request waits until it is granted
+-- a request waits until it is granted or withdrawn
 waiting_after : (marks : List Mark) (old new : LockTable) → TableSteps old marks new
-    → length new.waiting + weight grant marks ≡ length old.waiting + weight request marks
+    → length new.waiting + weight no_longer marks ≡ length old.waiting + weight request marks
 waiting_after [] old new same = omega (arith, ap (λ (t : LockTable). length t.waiting) same)
 waiting_after (Requested e ∷ marks) old new (next, step, rest) =
     omega (arith, gained old.waiting e next.waiting step.1, waiting_after marks next new rest)
@@ -60,42 +78,33 @@ waiting_after (Entered e ∷ marks) old new (next, step, rest) =
     omega (arith, gained next.waiting e old.waiting step.1, waiting_after marks next new rest)
 waiting_after (Left e ∷ marks) old new (next, step, rest) =
     omega (arith, ap length step.1, waiting_after marks next new rest)
+waiting_after (Withdrawn e ∷ marks) old new (next, step, rest) =
+    omega (arith, gained next.waiting e old.waiting step.1, waiting_after marks next new rest)
 
 -- ---- Of one client
 
--- what is 1 for a request, or for a grant, is the number of the locks
+-- the marks of a client weigh as much as its locks
 abbrev CountsLocks : (Mark → ℕ) → Type 0
 CountsLocks w = (node : ℕ) (ops : List Op) (marks : List Mark) → FollowsOps node ops marks → weight w marks ≡ locks_in ops
 
-requests_follow : CountsLocks request
-requests_follow node [] [] h = refl
-requests_follow node [] (mark ∷ marks) h = absurd h
-requests_follow node (Lock name mode ∷ ops) [] h = absurd h
-requests_follow node (Lock name mode ∷ ops) (mark ∷ []) h = absurd h
-requests_follow node (Lock name mode ∷ ops) (Requested a ∷ Requested b ∷ marks) h = absurd h.1
-requests_follow node (Lock name mode ∷ ops) (Requested a ∷ Entered b ∷ marks) h = omega (arith, requests_follow node ops marks h.2)
-requests_follow node (Lock name mode ∷ ops) (Requested a ∷ Left b ∷ marks) h = absurd h.1
-requests_follow node (Lock name mode ∷ ops) (Entered a ∷ mark ∷ marks) h = absurd h.0
-requests_follow node (Lock name mode ∷ ops) (Left a ∷ mark ∷ marks) h = absurd h.0
-requests_follow node (Unlock name ∷ ops) [] h = absurd h
-requests_follow node (Unlock name ∷ ops) (Requested a ∷ marks) h = absurd h.0
-requests_follow node (Unlock name ∷ ops) (Entered a ∷ marks) h = absurd h.0
-requests_follow node (Unlock name ∷ ops) (Left a ∷ marks) h = omega (arith, requests_follow node ops marks h.1)
-
-grants_follow : CountsLocks grant
-grants_follow node [] [] h = refl
-grants_follow node [] (mark ∷ marks) h = absurd h
-grants_follow node (Lock name mode ∷ ops) [] h = absurd h
-grants_follow node (Lock name mode ∷ ops) (mark ∷ []) h = absurd h
-grants_follow node (Lock name mode ∷ ops) (Requested a ∷ Requested b ∷ marks) h = absurd h.1
-grants_follow node (Lock name mode ∷ ops) (Requested a ∷ Entered b ∷ marks) h = omega (arith, grants_follow node ops marks h.2)
-grants_follow node (Lock name mode ∷ ops) (Requested a ∷ Left b ∷ marks) h = absurd h.1
-grants_follow node (Lock name mode ∷ ops) (Entered a ∷ mark ∷ marks) h = absurd h.0
-grants_follow node (Lock name mode ∷ ops) (Left a ∷ mark ∷ marks) h = absurd h.0
-grants_follow node (Unlock name ∷ ops) [] h = absurd h
-grants_follow node (Unlock name ∷ ops) (Requested a ∷ marks) h = absurd h.0
-grants_follow node (Unlock name ∷ ops) (Entered a ∷ marks) h = absurd h.0
-grants_follow node (Unlock name ∷ ops) (Left a ∷ marks) h = omega (arith, grants_follow node ops marks h.1)
+-- they do if a request and a grant weigh 1 together, and a release 0
+counts_locks : (w : Mark → ℕ) → ((a b : Entry) → w (Requested a) + w (Entered b) ≡ 1) → ((a : Entry) → w (Left a) ≡ 0) → CountsLocks w
+counts_locks w lock unlock node [] [] h = refl
+counts_locks w lock unlock node [] (mark ∷ marks) h = absurd h
+counts_locks w lock unlock node (Lock name mode ∷ ops) [] h = absurd h
+counts_locks w lock unlock node (Lock name mode ∷ ops) (mark ∷ []) h = absurd h
+counts_locks w lock unlock node (Lock name mode ∷ ops) (Requested a ∷ Requested b ∷ marks) h = absurd h.1
+counts_locks w lock unlock node (Lock name mode ∷ ops) (Requested a ∷ Entered b ∷ marks) h = omega (arith, lock a b, counts_locks w lock unlock node ops marks h.2)
+counts_locks w lock unlock node (Lock name mode ∷ ops) (Requested a ∷ Left b ∷ marks) h = absurd h.1
+counts_locks w lock unlock node (Lock name mode ∷ ops) (Requested a ∷ Withdrawn b ∷ marks) h = absurd h.1
+counts_locks w lock unlock node (Lock name mode ∷ ops) (Entered a ∷ mark ∷ marks) h = absurd h.0
+counts_locks w lock unlock node (Lock name mode ∷ ops) (Left a ∷ mark ∷ marks) h = absurd h.0
+counts_locks w lock unlock node (Lock name mode ∷ ops) (Withdrawn a ∷ mark ∷ marks) h = absurd h.0
+counts_locks w lock unlock node (Unlock name ∷ ops) [] h = absurd h
+counts_locks w lock unlock node (Unlock name ∷ ops) (Requested a ∷ marks) h = absurd h.0
+counts_locks w lock unlock node (Unlock name ∷ ops) (Entered a ∷ marks) h = absurd h.0
+counts_locks w lock unlock node (Unlock name ∷ ops) (Left a ∷ marks) h = omega (arith, unlock a, counts_locks w lock unlock node ops marks h.1)
+counts_locks w lock unlock node (Unlock name ∷ ops) (Withdrawn a ∷ marks) h = absurd h.0
 
 -- ---- Of all clients
 
@@ -159,11 +168,25 @@ met_weight w counts script marks met =
 -- ---- Of a report
 
 pub requests_of_plan : (script : ScriptState) (marks : List Mark) → MeetsPlan script marks → requests_in marks ≡ locks_of script
-requests_of_plan script marks met = requests_are marks ∙ met_weight request requests_follow script marks met
+requests_of_plan script marks met = requests_are marks ∙ met_weight request (counts_locks request (λ _ _. refl) (λ _. refl)) script marks met
 
-pub none_waits : (script : ScriptState) (marks : List Mark) (table : LockTable) → MeetsPlan script marks → TableRun marks table → length table.waiting ≡ 0
+none_withdrawn : (script : ScriptState) (marks : List Mark) → MeetsPlan script marks → withdrawn_in marks ≡ 0
+none_withdrawn script marks met =
+    omega (
+      arith,
+      both_are marks,
+      met_weight request_or_withdrawal (counts_locks request_or_withdrawal (λ _ _. refl) (λ _. refl)) script marks met,
+      requests_of_plan script marks met,
+    )
+
+none_waits : (script : ScriptState) (marks : List Mark) (table : LockTable) → MeetsPlan script marks → TableRun marks table → length table.waiting ≡ 0
 none_waits script marks table met run =
-    omega (arith, waiting_after marks empty_table table run, met_weight request requests_follow script marks met, met_weight grant grants_follow script marks met)
+    omega (
+      arith,
+      waiting_after marks empty_table table run,
+      met_weight request (counts_locks request (λ _ _. refl) (λ _. refl)) script marks met,
+      met_weight no_longer (counts_locks no_longer (λ _ _. refl) (λ _. refl)) script marks met,
+    )
 
 -- a report with these marks
 pub waits_for_none : (n : ℕ) (script : ScriptState) (report : Report) → MainTheorem n report → MeetsPlan script report.marks.items → report.waiting ≡ 0
@@ -174,8 +197,12 @@ pub requests_are_locks : (n start : ℕ) (moves : List Move) (script : ScriptSta
 requests_are_locks n start moves script report reports met =
     reports.requests ∙ ap requests_in (sym reports.marks) ∙ requests_of_plan script report.marks.items met
 
-pub messages_are : (n : ℕ) (script : ScriptState) (report : Report) → MainTheorem n report → IsQuietEnd report → report.repeated ≡ 0
+pub withdraws_none : (n start : ℕ) (moves : List Move) (script : ScriptState) (report : Report) → Reports n start moves report → MeetsPlan script report.marks.items → report.withdrawn ≡ 0
+withdraws_none n start moves script report reports met =
+    reports.withdrawn ∙ ap withdrawn_in (sym reports.marks) ∙ none_withdrawn script report.marks.items met
+
+pub messages_are : (n : ℕ) (script : ScriptState) (report : Report) → MainTheorem n report → IsQuietEnd report → report.repeated ≡ 0 → report.withdrawn ≡ 0
     → MeetsPlan script report.marks.items → report.requests ≡ locks_of script → report.sent ≡ 2 * (n - 1) * locks_of script
-messages_are n script report main quiet unrepeated met requests =
-    main.count (record { none_lost = quiet.lost; none_under_way = quiet.under_way }) unrepeated (waits_for_none n script report main met)
+messages_are n script report main quiet unrepeated unwithdrawn met requests =
+    main.count (record { none_lost = quiet.lost; none_under_way = quiet.under_way }) unrepeated unwithdrawn (waits_for_none n script report main met)
     ∙ ap (λ (r : ℕ). 2 * (n - 1) * r) requests

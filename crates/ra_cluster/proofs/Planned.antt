@@ -6,7 +6,7 @@ use Rattle.std.proofs.lemmas.Bool.{cases_lt, cases_Bool, eq-eqb, ne_eqb}
 use Rattle.std.proofs.lemmas.List.{drop_more, drop_all}
 use Rattle.std.proofs.lemmas.Option.{slice_get_past, slice_get_cases, same_Some, none-some}
 use Rattle.ra_stamp.specs.declared.entry.Mark.{Mark}
-use Rattle.ra_stamp.specs.declared.entry.Mark.TheVariants.{Requested, Entered, Left}
+use Rattle.ra_stamp.specs.declared.entry.Mark.TheVariants.{Requested, Entered, Left, Withdrawn}
 use Rattle.ra_schedule.specs.declared.script.Op.{Op}
 use Rattle.ra_schedule.specs.declared.script.Op.TheVariants.{Lock, Unlock}
 use Rattle.ra_schedule.specs.Script.{ScriptState, ScriptClient, client_at}
@@ -32,12 +32,15 @@ next_on node (Lock name mode) ops false (Requested entry) [] next = (λ h. absur
 next_on node (Lock name mode) ops false (Requested entry) (second ∷ marks) next = (λ h. (h.1, h.2), λ h. (next, h.0, h.1))
 next_on node (Lock name mode) ops false (Entered entry) marks next = absurd next
 next_on node (Lock name mode) ops false (Left entry) marks next = absurd next
+next_on node (Lock name mode) ops false (Withdrawn entry) marks next = absurd next
 next_on node (Lock name mode) ops true (Requested entry) marks next = absurd next
 next_on node (Lock name mode) ops true (Entered entry) marks next = (λ h. h.1, λ h. (next, h))
 next_on node (Lock name mode) ops true (Left entry) marks next = absurd next
+next_on node (Lock name mode) ops true (Withdrawn entry) marks next = absurd next
 next_on node (Unlock name) ops false (Requested entry) marks next = absurd next
 next_on node (Unlock name) ops false (Entered entry) marks next = absurd next
 next_on node (Unlock name) ops false (Left entry) marks next = (λ h. h.1, λ h. (next, h))
+next_on node (Unlock name) ops false (Withdrawn entry) marks next = absurd next
 next_on node (Unlock name) ops true mark marks next = absurd next
 
 pub is_next : (node : ℕ) (op : Op) (ops : List Op) (requested : Bool) (mark : Mark) (marks : List Mark)

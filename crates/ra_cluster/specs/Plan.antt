@@ -1,7 +1,7 @@
 -- What is looked at in the marks and the report of a script that threads ran.
 use Rattle.std.specs.Prelude.{◌≡◌, ℕ, Bool, true, false, List, Some}
 use Rattle.ra_stamp.specs.declared.entry.Mark.{Mark}
-use Rattle.ra_stamp.specs.declared.entry.Mark.TheVariants.{Requested, Entered, Left}
+use Rattle.ra_stamp.specs.declared.entry.Mark.TheVariants.{Requested, Entered, Left, Withdrawn}
 use Rattle.ra_schedule.specs.Script.{ScriptState, ScriptClient, client_at}
 pub use Rattle.ra_schedule.specs.Performing.{locks_in, locks_of}
 pub use Rattle.ra_schedule.specs.Plan.{client_of_mark, marks_of_client, IsRequestFor, IsNextMark, FollowsOps, MeetsPlanOf, MeetsPlan}
@@ -17,6 +17,7 @@ abbrev pub is_request : Mark → Bool
 is_request (Requested entry) = true
 is_request (Entered entry) = false
 is_request (Left entry) = false
+is_request (Withdrawn entry) = false
 
 -- no client is queued, and no message is lost or under way
 pub record IsQuietEnd (report : Report) : Type 0 where

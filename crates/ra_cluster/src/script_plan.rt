@@ -44,7 +44,7 @@ fn is_request(mark: &Mark) -> bool
 {
     match mark {
         Mark::Requested(_) => true,
-        Mark::Entered(_) | Mark::Left(_) => false,
+        Mark::Entered(_) | Mark::Left(_) | Mark::Withdrawn(_) => false,
     }
 }
 
@@ -89,11 +89,11 @@ fn is_next(node: NodeId, op: &Op, requested: bool, mark: &Mark) -> bool
                 !requested && is_at(entry, node, name) && entry.mode == *mode
             }
             Mark::Entered(entry) => requested && is_at(entry, node, name) && entry.mode == *mode,
-            Mark::Left(_) => false,
+            Mark::Left(_) | Mark::Withdrawn(_) => false,
         },
         Op::Unlock(name) => match mark {
             Mark::Left(entry) => !requested && is_at(entry, node, name),
-            Mark::Requested(_) | Mark::Entered(_) => false,
+            Mark::Requested(_) | Mark::Entered(_) | Mark::Withdrawn(_) => false,
         },
     }
 }

@@ -19,7 +19,8 @@ pub struct ScriptRun<'a, G> {
 }
 
 /// Runs a thread for each node and one for each client. Returns when the clients' threads and then the nodes' threads
-/// have ended. The grants are kept. Once the cluster is closed, [`settle_script`](crate::settle_script) settles its books.
+/// have ended. The grants are kept. Once the cluster is closed, [`settle_script`](crate::settle_script) settles its
+/// books.
 ///
 /// A client whose node is stopped ends. If a thread cannot be started, or a client's call is refused for another cause,
 /// the cluster is stopped. A client does nothing if the cluster does not have its node. Nothing bounds how long the

@@ -17,7 +17,8 @@ use std::alloc::Global;
 ///
 /// # Errors
 ///
-/// The first that holds, except that `Memory` may come before 3 to 6. It does not come if a frame came that was not sent:
+/// The first that holds, except that `Memory` may come before 3 to 6. It does not come if a frame came that was not
+/// sent:
 ///
 /// 1. `Fault`: a node was stopped, with the cause in the first such book.
 /// 2. `Settle`: the books are not those of the script's nodes, in order, with numbers that begin at 0.
@@ -36,7 +37,8 @@ pub fn settle_script(
     ensures outcome { IfOk result (IsOutcome script.now books.now grants.now) }
     // Its marks are those of the script, it ends quietly, and its requests and messages are counted.
     ensures done { IfOk result (IsDone script.now) }
-    ensures fault { (stop : Stop) → IsErrOf result (ClusterError.Fault stop) ↔ (spec.first_fault books.now ≡ Some stop) }
+    ensures fault { (stop : Stop) → IsErrOf result (ClusterError.Fault stop)
+        ↔ (spec.first_fault books.now ≡ Some stop) }
     // If no node was stopped, each refusal comes only if its cause applies.
     ensures refused { spec.first_fault books.now ≡ None → IfErr result (RefusesSound script.now books.now grants.now) }
     ensures threads { IfErr result IsOfThreads }
@@ -58,7 +60,8 @@ fn settle_sound(
     books: &[Book],
     grants: &[Grant],
 ) -> Result<Settled, ClusterError>
-    ensures { MatchResult result (λ settled. IsOutcome script.now books.now grants.now settled × IsDone script.now settled)
+    ensures { MatchResult result
+        (λ settled. IsOutcome script.now books.now grants.now settled × IsDone script.now settled)
         (RefusesSound script.now books.now grants.now) }
 {
     if !are_of(script, books) {

@@ -6,8 +6,8 @@ use Rattle.std.proofs.lemmas.List.{append-nil}
 use Rattle.std.proofs.lemmas.List.Elements.{All-nil, All-cons, All-head, All-tail}
 use Rattle.std.proofs.lemmas.Option.{some_pair_parts}
 use Rattle.ra_trace.specs.declared.line.Line.{Line}
-use Rattle.ra_trace.specs.declared.line.Line.TheVariants.{First, Stepped, Marked, Last}
-use Rattle.ra_trace.specs.declared.line.version.Version.TheVariants.{One, Two}
+use Rattle.ra_trace.specs.declared.line.Line.TheVariants.{First, Stepped, Sent, Marked, Last}
+use Rattle.ra_trace.specs.declared.line.version.Version.TheVariants.{One, Two, Three, ThreeWithSends}
 use Rattle.ra_trace.specs.Forms.{IsReadable, cut}
 use Rattle.ra_trace.specs.TraceText.{line_text}
 use Rattle.ra_trace.proofs.Cuts.{IsFree, cut-append, cut-only}
@@ -75,6 +75,7 @@ parsed bytes (Some other) line is none readable same =
 first_tells : (line : Line) (others : List Line) → is_trace (line ∷ []) ≡ is_trace (line ∷ others)
 first_tells (First version nodes start) others = refl
 first_tells (Stepped step) others = refl
+first_tells (Sent message) others = refl
 first_tells (Marked mark) others = refl
 first_tells Last others = refl
 
@@ -83,7 +84,10 @@ not_empty : (found : Option Line) → IfSome found (λ l. IsReadable l × (codes
 not_empty None is = refl
 not_empty (Some (First One nodes start)) is = let clash = is.1 in cc
 not_empty (Some (First Two nodes start)) is = let clash = is.1 in cc
+not_empty (Some (First Three nodes start)) is = let clash = is.1 in cc
+not_empty (Some (First ThreeWithSends nodes start)) is = let clash = is.1 in cc
 not_empty (Some (Stepped step)) is = refl
+not_empty (Some (Sent message)) is = refl
 not_empty (Some (Marked mark)) is = refl
 not_empty (Some Last) is = refl
 

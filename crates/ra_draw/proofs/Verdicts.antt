@@ -8,7 +8,7 @@ use Rattle.ra_trace.specs.declared.checker.verdict.Verdict.TheVariants.{Valid}
 use Rattle.ra_trace.specs.declared.line.Line.{Line}
 use Rattle.ra_trace.specs.declared.line.Line.TheVariants.{Marked}
 use Rattle.ra_trace.specs.declared.line.version.Version.{Version}
-use Rattle.ra_trace.specs.declared.line.version.Version.TheVariants.{Two}
+use Rattle.ra_trace.specs.declared.line.version.Version.TheVariants.{Three}
 use Rattle.ra_trace.specs.declared.mark_log.marks_verdict.MarksVerdict.TheVariants as log
 use Rattle.ra_trace.specs.Forms.{IsReadable}
 use Rattle.ra_trace.specs.Marks.{IsMarksVerdict, marks_text}
@@ -27,9 +27,9 @@ pub trace_has_lines : (text : List ℕ) (requests messages : ℕ) → IsVerdict 
 trace_has_lines text requests messages (version, n, start, moves, is, counted, sent) =
     (trace_lines version n start moves, record { readable = all_readable version (trace_lines version n start moves) is.lines; text_is = is.text_is })
 
-marks_readable : (marks : List Mark) → All (IsMarkLine Two) marks → AllByRecursion IsReadable (map Marked marks)
+marks_readable : (marks : List Mark) → All (IsMarkLine Three) marks → AllByRecursion IsReadable (map Marked marks)
 marks_readable [] h = tt
-marks_readable (mark ∷ marks) h = (All-head (IsMarkLine Two) mark marks h, marks_readable marks (All-tail (IsMarkLine Two) mark marks h))
+marks_readable (mark ∷ marks) h = (All-head (IsMarkLine Three) mark marks h, marks_readable marks (All-tail (IsMarkLine Three) mark marks h))
 
 lines_of_marks : (marks : List Mark) → marks_text marks ≡ flat_map line_text (map Marked marks)
 lines_of_marks [] = refl

@@ -5,7 +5,7 @@ use Rattle.std.specs.List.{AllByRecursion}
 use Rattle.ra_stamp.specs.Mark.{entry_of_mark}
 use Rattle.ra_text.specs.declared.drawn_part.Part.{Part}
 use Rattle.ra_trace.specs.declared.line.Line.{Line}
-use Rattle.ra_trace.specs.declared.line.Line.TheVariants.{First, Stepped, Marked, Last}
+use Rattle.ra_trace.specs.declared.line.Line.TheVariants.{First, Stepped, Sent, Marked, Last}
 use Rattle.ra_trace.specs.Forms.{IsReadable}
 use Rattle.ra_trace.specs.TraceText.{line_text}
 
@@ -23,6 +23,7 @@ abbrev pub is_trace : List Line → Bool
 is_trace [] = false
 is_trace (First version nodes start ∷ lines) = true
 is_trace (Stepped step ∷ lines) = false
+is_trace (Sent message ∷ lines) = false
 is_trace (Marked mark ∷ lines) = false
 is_trace (Last ∷ lines) = false
 
@@ -30,6 +31,7 @@ is_trace (Last ∷ lines) = false
 abbrev pub has_row : (trace : Bool) → Line → Bool
 has_row trace (First version nodes start) = false
 has_row trace (Stepped step) = true
+has_row trace (Sent message) = false
 has_row trace (Marked mark) = not trace
 has_row trace Last = false
 
@@ -56,6 +58,7 @@ rows_of part lines = rows_from (is_trace lines) part 1 lines
 abbrev pub nodes_with : (trace : Bool) → ℕ → Line → ℕ
 nodes_with trace nodes (First version count start) = count
 nodes_with trace nodes (Stepped step) = nodes
+nodes_with trace nodes (Sent message) = nodes
 nodes_with trace nodes (Marked mark) = if trace then nodes else max nodes (entry_of_mark mark).stamp.node
 nodes_with trace nodes Last = nodes
 

@@ -9,7 +9,7 @@ use ra_trace::{Verdict, check_buffered};
 use std::alloc::Global;
 use std::io::{Read, Write};
 
-/// Reads a text. If it is the trace of a run of either version, writes a picture of a part of it: a space-time diagram
+/// Reads a text. If it is the trace of a run of any version, writes a picture of a part of it: a space-time diagram
 /// in one SVG file, with no script in it, time downwards. The picture has:
 ///
 /// - a lane for each node;

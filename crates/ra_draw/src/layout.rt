@@ -138,8 +138,8 @@ impl Layout {
     fn add_bar(&mut self, span: &LockSpan) -> Result<(), Memory>
         ensures { self.new.nodes ≡ self.old.nodes }
     {
-        let end = match span.left {
-            Some(left) => left.row,
+        let end = match span.ended {
+            Some(ended) => ended.row,
             None => self.end,
         };
         if end == 0 {

@@ -5,6 +5,7 @@ ghost use Rattle.ra_draw.specs.Pictures.{AreLines, HasLines, IsElement, IsPictur
 ghost use Rattle.ra_draw.specs.Writing.{Adds, Says};
 ghost use Rattle.ra_trace.specs.declared.line.Line.{Line};
 
+mod act_look;
 mod deferral_shapes;
 mod layers;
 mod legend;

@@ -1,5 +1,6 @@
-//! What happens in the part of a text that is drawn. For a trace, a world of its own makes the steps again: the text
-//! has no line for a message that is sent, and only the nodes know which ones a step sends.
+//! What happens in the part of a text that is drawn. For a trace, a world of its own makes the steps again: most texts
+//! have no line for a message that is sent, and only the nodes know which ones a step sends.
+mod act;
 mod deferral;
 mod lock_span;
 mod message_path;
@@ -11,33 +12,27 @@ ghost use Rattle.ra_draw.specs.Pictures.{AreLines, is_trace};
 ghost use Rattle.ra_trace.specs.declared.line.Line.{Line};
 
 use crate::Part;
+pub use act::Act;
 pub use deferral::{Deferral, DeferralSpans};
 use indexmap::IndexMap;
 pub use lock_span::{LockKey, LockSpan, LockSpans};
 pub use message_path::{MessageEnd, MessagePath, MessagePaths};
 pub use moment::Moment;
-use ra_stamp::{Mark, Memory, Message, Mode};
+use ra_stamp::{Mark, Memory, Message};
 use ra_text::cut;
 use ra_trace::Line;
 use ra_world::{MarklessWorld, Step};
 use std::alloc::Global;
 
-/// The most marks of a step: a client leaves, and the next one of its node gets a number and enters.
-const MOST_MARKS: u32 = 3;
+/// The most lines that tell what comes of a step: a REPLY and a REQUEST to each other node, and three marks. A client
+/// leaves, and the next one of its node gets a number and enters.
+const MOST_TOLD: u32 = 129;
 
-/// What a client does by a step: it asks for a name in a mode, or leaves it.
-#[derive(Clone, Copy)]
-pub struct ClientAct {
-    pub key: LockKey,
-    /// The mode in which it asks.
-    pub mode: Option<Mode>,
-}
-
-/// The line of a step, and what a client does by it, if anything.
+/// The line of a step, and what a client or a node does by it, if anything.
 #[derive(Clone, Copy)]
 pub struct Row {
     pub line: u64,
-    pub act: Option<ClientAct>,
+    pub act: Option<Act>,
 }
 
 /// What is drawn of a run, as far as it was followed.
@@ -100,8 +95,8 @@ impl Timeline {
     }
 
     /// Begins the line of a step or of a mark of a log, with a row if it is in the part. The lock span of a client that
-    /// asks begins.
-    fn begin(&mut self, line: u64, act: Option<ClientAct>, is_drawn: bool) -> Result<(), Memory>
+    /// asks begins, and that of one that leaves or gives up ends.
+    fn begin(&mut self, line: u64, act: Option<Act>, is_drawn: bool) -> Result<(), Memory>
         ensures rows { OnOk result (numbers_of self.new.rows.items
             ≡ numbers_of self.old.rows.items ++ (if is_drawn then line ∷ [] else [])) }
         ensures nodes { self.new.nodes ≡ self.old.nodes }
@@ -110,17 +105,17 @@ impl Timeline {
         if is_drawn {
             self.moment.row = self.moment.row.saturating_add(1);
         }
-        if let Some(
-            ClientAct {
-                key,
-                mode: Some(mode),
-            },
-        ) = &act
-        {
-            let Ok(()) = self.spans.ask(key, *mode, self.moment) else {
-                return Err(Memory);
-            };
-        }
+        let noted = match &act {
+            Some(Act::Ask(key, mode)) => self.spans.ask(key, *mode, self.moment),
+            Some(Act::Leave(key) | Act::Cancel(key)) => {
+                self.spans.end(key, self.moment);
+                Ok(())
+            }
+            _ => Ok(()),
+        };
+        let Ok(()) = noted else {
+            return Err(Memory);
+        };
         if is_drawn {
             let Ok(()) = self.rows.push(Row { line, act }) else {
                 return Err(Memory);
@@ -130,7 +125,7 @@ impl Timeline {
     }
 
     /// Notes the messages that a step sends, and the deferrals that it begins and ends: a delivered REQUEST without a
-    /// REPLY is deferred, and a client that leaves sends what was deferred.
+    /// REPLY is deferred, and a client that leaves or gives up sends what was deferred.
     fn note_sends(&mut self, alloc: Global, step: &Step, sends: &[Message]) -> Result<(), Memory>
         ensures { IsSamePage self.old self.new }
     {
@@ -148,10 +143,9 @@ impl Timeline {
                 return Err(Memory);
             };
         }
+        let ends_deferrals = matches!(step, Step::Leave { .. } | Step::Cancel { .. });
         for message in sends {
-            if let Step::Leave { .. } = step
-                && let Message::Reply { from, to, name, .. } = message
-            {
+            if ends_deferrals && let Message::Reply { from, to, name, .. } = message {
                 self.deferrals.end(&(*from, *to, *name), self.moment);
             }
             let Ok(()) = self.paths.begin(alloc, message, self.moment, false) else {
@@ -175,7 +169,9 @@ impl Timeline {
             Step::Deliver(message) => self.paths.end(message, self.moment, false),
             Step::Lose(message) => self.paths.end(message, self.moment, true),
             Step::Repeat(message) => self.paths.begin(alloc, message, self.moment, true),
-            Step::Ask { .. } | Step::Leave { .. } => Ok(()),
+            Step::Ask { .. } | Step::Leave { .. } | Step::Cancel { .. } | Step::Forget { .. } => Ok(
+                (),
+            ),
         };
         let Ok(()) = noted else {
             return Err(Memory);
@@ -195,21 +191,7 @@ impl Timeline {
         ensures { OnOk result (Notes false is_drawn number (Line.Marked mark.now) self.old self.new) }
     {
         let entry = mark.entry();
-        let mode = match mark {
-            Mark::Requested(_) => Some(entry.mode),
-            _ => None,
-        };
-        let act = match mark {
-            Mark::Entered(_) => None,
-            _ => Some(ClientAct {
-                key: LockKey {
-                    node: entry.stamp.node,
-                    client: entry.client,
-                    name: entry.name,
-                },
-                mode,
-            }),
-        };
+        let act = Act::of_mark(mark);
         let Ok(()) = self.begin(number, act, is_drawn) else {
             return Err(Memory);
         };
@@ -237,22 +219,7 @@ impl Timeline {
                 Ok(())
             }
             Line::Stepped(step) => {
-                let act = match *step {
-                    Step::Ask {
-                        node,
-                        client,
-                        name,
-                        mode,
-                    } => Some(ClientAct {
-                        key: LockKey { node, client, name },
-                        mode: Some(mode),
-                    }),
-                    Step::Leave { node, client, name } => Some(ClientAct {
-                        key: LockKey { node, client, name },
-                        mode: None,
-                    }),
-                    _ => None,
-                };
+                let act = Act::of_step(step);
                 self.begin(number, act, is_drawn)?;
                 self.make_step(alloc, world, step)
             }
@@ -261,24 +228,26 @@ impl Timeline {
                 self.spans.take(mark, self.moment);
                 Ok(())
             }
-            Line::Last => Ok(()),
+            // The world sends again what this step sent.
+            Line::Sent(_) | Line::Last => Ok(()),
         }
     }
 
-    /// Takes the marks at the start of what follows the part of a trace: they are of its last step, which has at most
-    /// this many.
+    /// Takes the marks at the start of what follows the part of a trace: they are of its last step. Lines of what that
+    /// sends may come before.
     fn take_last_marks(&mut self, following: &[u8])
         ensures { IsSamePage self.old self.new }
     {
         let mut rest = following;
-        for _mark in 0..MOST_MARKS {
+        for _told in 0..MOST_TOLD {
             let (text, Some(after)) = cut(rest, b'\n') else {
                 return;
             };
-            let Some(Line::Marked(mark)) = Line::parse(text) else {
-                return;
-            };
-            self.spans.take(&mark, self.moment);
+            match Line::parse(text) {
+                Some(Line::Sent(_)) => {}
+                Some(Line::Marked(mark)) => self.spans.take(&mark, self.moment),
+                _ => return,
+            }
             rest = after;
         }
     }

@@ -14,7 +14,7 @@ const SURVEY: &str =
 pub const TAB: &str = "a tab does not separate fields: fields are separated by one space";
 
 /// The hint for a message without its kind.
-const KINDS: &str = "expected request or reply after deliver, lose or repeat";
+const KINDS: &str = "expected request or reply after deliver, lose, repeat or send";
 
 /// The hint for a line of a trace in a mark log.
 const TRACE: &str = "this looks like a trace, which ra check reads without --marks";
@@ -47,9 +47,10 @@ pub const AT_FIRST: &[Hint] = &[
     ("trace\t", TAB),
     ("trace 1\t", TAB),
     ("trace 2\t", TAB),
+    ("trace 3\t", TAB),
     (
         "trace",
-        "expected trace VERSION NODES START: version 1 or 2, at most 16 nodes in version 1 and 64 in version 2, and the number that each name begins with",
+        "expected trace VERSION NODES START: version 1, 2 or 3, at most 16 nodes in version 1 and otherwise 64, and the number that each name begins with",
     ),
     (
         "request",
@@ -71,9 +72,15 @@ pub const AT_MARKS: &[Hint] = &[
 ];
 
 /// The hints for a later line of a trace.
-pub const AT_LATER: &[Hint] = &[("deliver ", KINDS), ("lose ", KINDS), ("repeat ", KINDS)];
+pub const AT_LATER: &[Hint] = &[
+    ("deliver ", KINDS),
+    ("lose ", KINDS),
+    ("repeat ", KINDS),
+    ("send ", KINDS),
+];
 
-/// Returns the text of the first hint of these lists whose prefix the line begins with, or `otherwise` if there is none.
+/// Returns the text of the first hint of these lists whose prefix the line begins with, or `otherwise` if there is
+/// none.
 pub fn hint_at<'a>(lists: &[&[Hint]], line: &[u8], otherwise: &'a str) -> &'a str {
     for hints in lists {
         for (prefix, text) in *hints {

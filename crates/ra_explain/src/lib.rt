@@ -15,5 +15,5 @@ pub use trace_notes::blockers::{MAX_CLIENTS, TellsBlocker, push_blockers, want_t
 pub use trace_notes::line_cause::{LineCause, line_note};
 pub use trace_notes::open_request::{OpenRequest, Reached, Stage};
 pub use trace_notes::open_requests::{OpenRequests, Sought};
-pub use trace_notes::refused_step::{push_exhausted, push_stage};
+pub use trace_notes::refused_step::{push_exhausted, push_stage, push_waits_not};
 pub use trace_notes::text_end::end_note;

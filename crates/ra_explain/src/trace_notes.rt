@@ -15,3 +15,4 @@ pub mod replay;
 pub mod table_steps;
 pub mod text_end;
 pub mod text_line;
+pub mod withdrawals;

@@ -4,7 +4,8 @@ ghost use Rattle.ra_frame.specs.FrameText as text;
 use Mode::{Exclusive, IntentExclusive, IntentShared, Shared, SharedIntentExclusive};
 use ra_stamp::{Mode, NodeId};
 
-/// The versions of frames, which differ in their nodes and modes. Nobody chooses one: all are read, and the newest is written.
+/// The versions of frames, which differ in their nodes and modes. Nobody chooses one: all are read, and the newest is
+/// written.
 #[derive(Clone, Copy)]
 pub enum Format {
     /// Nodes 1 to 16 in one byte each, and the modes shared and exclusive.
@@ -38,9 +39,9 @@ impl Format {
         }
     }
 
-    /// Returns where each field of a frame begins, in bytes counted from 0: the version, the kind, the sender, the receiver, the mode,
-    /// the sequence number, the clock, the length of the name, and the name. A field ends where the next one begins, and the name
-    /// has its length. It does not allocate.
+    /// Returns where each field of a frame begins, in bytes counted from 0: the version, the kind, the sender, the
+    /// receiver, the mode, the sequence number, the clock, the length of the name, and the name. A field ends where the
+    /// next one begins, and the name has its length. It does not allocate.
     pub fn places(self) -> [usize; 9]
         ensures { result ≡ spec.places self }
     {

@@ -7,7 +7,8 @@ ghost use Rattle.ra_frame.specs.Faults.{first_fault};
 
 /// No two texts of one version are the same frame.
 pub fn one_spelling()
-    ensures { (format : Format) (a b : List ℕ) (frame : Frame) → IsFrameTextOf format a frame → IsFrameTextOf format b frame → a ≡ b }
+    ensures { (format : Format) (a b : List ℕ) (frame : Frame) → IsFrameTextOf format a frame
+        → IsFrameTextOf format b frame → a ≡ b }
 {}
 
 /// What is written may be read, and what is read may be written. A text of either version has no fault and is one

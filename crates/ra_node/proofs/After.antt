@@ -1,5 +1,5 @@
 -- What a turn at the slot of a name makes of a node.
-use Rattle.std.proofs.Common.{◌≡◌, ℕ, false, List, [], Option, Some, None, Result, Ok, Err, IfOk, OnErr, MatchResult, IsSome, refl, sym, ap, ◌∙◌, subst, inl}
+use Rattle.std.proofs.Common.{◌≡◌, ℕ, false, List, [], Option, Some, None, Result, Ok, Err, IfOk, OnErr, MatchResult, IsSome, refl, sym, ap, ◌∙◌, subst, arith, inl, inr}
 use Rattle.std.specs.Prelude.{unwrap_or}
 use Rattle.std.specs.Str.{bytes_eq}
 use Rattle.std.specs.Map.{lookup, set_value}
@@ -16,13 +16,13 @@ use Rattle.ra_stamp.specs.declared.entry.Mark.{Mark}
 use Rattle.ra_stamp.specs.Message.{name_of}
 use Rattle.ra_automaton.specs.State.{IsConsistent}
 use Rattle.ra_node.specs.declared.outcome.Outcome.{Outcome}
-use Rattle.ra_node.specs.Resource.{Resource, unmet, Holds, holder_of, IsConsistentResource}
-use Rattle.ra_node.specs.Turns.{AskTurn, LeaveTurn, ReceiveTurn, IsStrayAt}
+use Rattle.ra_node.specs.Resource.{Resource, unmet, Holds, holder_of, waiter_of, IsQueued, IsKeptWaiting, IsConsistentResource}
+use Rattle.ra_node.specs.Turns.{AskTurn, LeaveTurn, CancelTurn, ReceiveTurn, IsStrayAt}
 use Rattle.ra_node.specs.Node.{NodeState, resource_at, with_resource, waiting_count, queued_count, IsConsistentNode}
-use Rattle.ra_node.specs.Events.{AskEvent, LeaveEvent, ReceiveEvent}
+use Rattle.ra_node.specs.Events.{AskEvent, LeaveEvent, CancelEvent, ReceiveEvent}
 use Rattle.ra_node.specs.declared.node.Node.TheInside.{Inside}
 use Rattle.ra_node.specs.View.{node_with, Finds, excess_of, IsKept}
-use Rattle.ra_node.proofs.Kept.{ask_kept, leave_kept, receive_kept}
+use Rattle.ra_node.proofs.Kept.{ask_kept, leave_kept, cancel_kept, receive_kept}
 use Rattle.ra_node.proofs.NodeLemmas.{found, after_update}
 use Rattle.ra_node.proofs.Updates.{stray_stays}
 
@@ -54,6 +54,12 @@ module _ (me nodes start : ℕ) (slots : List (List ℕ × Resource)) (now : Nod
   left client name sends marks here finds turn state =
       let after = after_update me nodes start slots now is name new slots' kept finds (leave_kept now.me now.nodes name now.start slot client sends marks new turn state (here_is_consistent name here)) in
       (after.kept, record { resource = new; turn = subst (λ (r : Resource). LeaveTurn r client sends marks new) here turn; new_is = after.view })
+
+  pub cancelled : (client : ℕ) (name : List ℕ) (sends : List Message) (marks : List Mark) → slot ≡ resource_at now name → FindsAt name → CancelTurn slot client sends marks new → IsConsistent new.state
+      → Happens (CancelEvent now client name sends marks (node_with me nodes start slots'))
+  cancelled client name sends marks here finds turn state =
+      let after = after_update me nodes start slots now is name new slots' kept finds (cancel_kept now.me now.nodes name now.start slot client sends marks new turn state (here_is_consistent name here)) in
+      (after.kept, record { resource = new; turn = subst (λ (r : Resource). CancelTurn r client sends marks new) here turn; new_is = after.view })
 
   -- a slot that is written as it was leaves the node as it was
   unchanged : (name : List ℕ) → IsWritten slots name slot new slots' → new ≡ slot → node_with me nodes start slots' ≡ now
@@ -123,6 +129,13 @@ module _ {S E : Type 0} (me nodes start : ℕ) (slots slots' : HashMap (List ℕ
         after_call me nodes start slots.entries now is kept slot new slots'.entries result (λ (o : Outcome). LeaveTurn slot client o.sends.items o.marks.items new) (λ (o : Outcome). LeaveEvent now client name o.sends.items o.marks.items (node_with me nodes start slots'.entries)) Refused name turn written
         (λ o. left me nodes start slots.entries now is kept slot new slots'.entries client name o.sends.items o.marks.items (found me nodes start slots.entries now is name slot was) written.finds)
 
+    pub cancelled_at : (client : ℕ) (name : List ℕ) → Ended (λ o. CancelTurn slot client o.sends.items o.marks.items new) → Some slot ≡ lookup (bytes_eq name) slots.entries → WritesThrough bytes_eq (bytes_eq name) slots new slots'
+        → IsAfter (λ o. CancelEvent now client name o.sends.items o.marks.items (node_with me nodes start slots'.entries))
+    cancelled_at client name turn was through =
+        let written = written_through slots slots' name slot new was through in
+        after_call me nodes start slots.entries now is kept slot new slots'.entries result (λ (o : Outcome). CancelTurn slot client o.sends.items o.marks.items new) (λ (o : Outcome). CancelEvent now client name o.sends.items o.marks.items (node_with me nodes start slots'.entries)) Refused name turn written
+        (λ o. cancelled me nodes start slots.entries now is kept slot new slots'.entries client name o.sends.items o.marks.items (found me nodes start slots.entries now is name slot was) written.finds)
+
     pub received_at : (message : Message) (name : List ℕ) → name ≡ name_of message → Ended (λ o. ReceiveTurn slot message o.sends.items o.marks.items new) → Some slot ≡ lookup (bytes_eq name) slots.entries → WritesThrough bytes_eq (bytes_eq name) slots new slots'
         → IsAfter (λ o. ReceiveEvent now message o.sends.items o.marks.items (node_with me nodes start slots'.entries))
     received_at message name name-is turn was through =
@@ -134,6 +147,13 @@ module _ {S E : Type 0} (me nodes start : ℕ) (slots slots' : HashMap (List ℕ
 -- nobody holds a resource that nothing was about yet
 pub nobody_holds : (r : Resource) (me nodes : ℕ) (name : List ℕ) (start : ℕ) → r ≡ unmet me nodes name start → (client : ℕ) (entry : Entry) → Holds r client entry → ⊥
 nobody_holds r me nodes name start is client entry held = none-some entry (sym (ap holder_of is) ∙ held.granted)
+
+-- nor does anybody wait for it
+pub nobody_kept : (r : Resource) (me nodes : ℕ) (name : List ℕ) (start : ℕ) → r ≡ unmet me nodes name start → (client : ℕ) → IsKeptWaiting r client → ⊥
+nobody_kept r me nodes name start is client kept = elim kept [
+  | inl waits ↦ none-some waits.0 (sym (ap waiter_of is) ∙ waits.1.requested)
+  | inr queued ↦ let here = subst (λ (x : Resource). IsQueued x client) is queued in omega (arith, here.2)
+]
 
 -- ---- A call at the slot of a name that nothing was about yet
 

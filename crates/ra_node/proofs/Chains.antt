@@ -1,13 +1,13 @@
 -- Events one after the other.
-use Rattle.std.proofs.Common.{◌≡◌, ℕ, List, [], ◌∷◌, ◌++◌, refl, sym, ap, ◌∙◌, subst}
+use Rattle.std.proofs.Common.{◌≡◌, ℕ, ◌≤◌, List, [], ◌∷◌, ◌++◌, refl, sym, ap, ◌∙◌, subst, arith}
 use Rattle.std.proofs.lemmas.List.Elements.{All-head, All-tail, All-weaker}
 use Rattle.ra_stamp.specs.declared.entry.Mark.{Mark}
 use Rattle.ra_stamp.specs.declared.message.Message.{Message}
 use Rattle.ra_automaton.specs.State.{IsForNode}
 use Rattle.ra_node.specs.Node.{NodeState, IsConsistentNode}
-use Rattle.ra_node.specs.Events.{Event, Happening, NodeEvent, NodeEvents, IsForThisNode, AreForThisNode}
-use Rattle.ra_node.specs.Events.Event.{Ask, Leave, Receive}
-use Rattle.ra_node.proofs.EventLemmas.{same_node}
+use Rattle.ra_node.specs.Events.{Event, Happening, NodeEvent, NodeEvents, IsNamed, AreNamed, IsForThisNode, AreForThisNode}
+use Rattle.ra_node.specs.Events.Event.{Ask, Leave, Cancel, Receive, Forget}
+use Rattle.ra_node.proofs.EventLemmas.{same_node, same_start}
 
 pub events_join : (prefix suffix : List Happening) (a b c : NodeState) → NodeEvents a prefix b → NodeEvents b suffix c → NodeEvents a (prefix ++ suffix) c
 events_join [] suffix a b c p q = subst (λ (n : NodeState). NodeEvents n suffix c) p q
@@ -23,17 +23,24 @@ events_step happened event sends marks a b c p q = events_join happened (record 
 
 -- ---- What a history keeps
 
-pub history_same_node : (happened : List Happening) (old new : NodeState) → NodeEvents old happened new → (new.me ≡ old.me) × (new.nodes ≡ old.nodes) × (new.start ≡ old.start)
-history_same_node [] old new is = (ap (λ (n : NodeState). n.me) is, ap (λ (n : NodeState). n.nodes) is, ap (λ (n : NodeState). n.start) is)
+pub history_same_node : (happened : List Happening) (old new : NodeState) → NodeEvents old happened new → (new.me ≡ old.me) × (new.nodes ≡ old.nodes) × (old.start ≤ new.start)
+history_same_node [] old new is = (ap (λ (n : NodeState). n.me) is, ap (λ (n : NodeState). n.nodes) is, omega (arith, ap (λ (n : NodeState). n.start) is))
 history_same_node (h ∷ hs) old new (next, first, rest) =
     let here = same_node old next h.event h.sends h.marks first in
     let later = history_same_node hs next new rest in
-    (later.0 ∙ here.0, later.1 ∙ here.1, later.2 ∙ here.2)
+    (later.0 ∙ here.0, later.1 ∙ here.1, omega (arith, later.2, here.2))
+
+pub history_same_start : (happened : List Happening) (old new : NodeState) → NodeEvents old happened new → AreNamed happened → new.start ≡ old.start
+history_same_start [] old new is named = ap (λ (n : NodeState). n.start) is
+history_same_start (h ∷ hs) old new (next, first, rest) named =
+    history_same_start hs next new rest (All-tail (λ x. IsNamed x.event) h hs named) ∙ same_start old next h.event h.sends h.marks first (All-head (λ x. IsNamed x.event) h hs named)
 
 -- an event that is for a node is so after other events of it
 still_for : (old next : NodeState) (event : Event) → next.me ≡ old.me → next.nodes ≡ old.nodes → IsForThisNode old event → IsForThisNode next event
 still_for old next (Ask client name mode) me nodes for = tt
 still_for old next (Leave client name) me nodes for = tt
+still_for old next (Cancel client name) me nodes for = tt
+still_for old next Forget me nodes for = tt
 still_for old next (Receive message) me nodes for = subst (λ (k : ℕ). IsForNode k next.nodes message) (sym me) (subst (λ (k : ℕ). IsForNode old.me k message) (sym nodes) for)
 
 pub history_kept : ((old new : NodeState) (event : Event) (sends : List Message) (marks : List Mark) → IsConsistentNode old → IsForThisNode old event → NodeEvent old event sends marks new → IsConsistentNode new)

@@ -11,10 +11,12 @@ use Rattle.ra_stamp.specs.Message.{name_of}
 use Rattle.ra_automaton.specs.declared.phase.Phase.{Phase}
 use Rattle.ra_automaton.specs.State.{State}
 use Rattle.ra_node.specs.declared.queued_client.Queued.{Queued}
-use Rattle.ra_node.specs.Resource.{Resource, unmet, use_in, held_entry, Holds, ClientFits, clients_of}
-use Rattle.ra_node.specs.Turns.{AskTurn, LeaveTurn, ReceiveTurn}
+use Rattle.ra_stamp.specs.declared.entry.Mark.TheVariants.{Left, Withdrawn}
+use Rattle.ra_node.specs.Resource.{Resource, unmet, use_in, held_entry, waiting_entry, Holds, IsKeptWaiting, ClientFits, clients_of}
+use Rattle.ra_node.specs.Turns.{AskTurn, Leaves, Withdraws, EndTurn, LeaveTurn, CancelTurn, ReceiveTurn}
 use Rattle.ra_node.specs.Node.{NodeState, opening_node, resource_at, with_resource, clients_count, IsConsistentNode}
-use Rattle.ra_node.specs.Events.{AskEvent, LeaveEvent, ReceiveEvent}
+use Rattle.ra_node.specs.Events.{AskEvent, LeaveEvent, CancelEvent, ReceiveEvent}
+use Rattle.ra_node.proofs.Endings.{AreEnded, leaves_ended, withdraws_ended}
 use Rattle.ra_node.proofs.Named.{sum_of_none}
 use Rattle.ra_node.proofs.Totals.{sum_put, sum_part}
 use Rattle.ra_node.proofs.Updates.{receive_updates}
@@ -55,15 +57,35 @@ one_holds : (s : State) (phase : Phase) (client : Option ℕ) (e : Entry) → he
 one_holds s phase None e is = absurd (none-some e is)
 one_holds s phase (Some client) e is = one_is client
 
-left : (old : Resource) (client : ℕ) (sends : List Message) (marks : List Mark) (new : Resource) → LeaveTurn old client sends marks new → clients_at new + 1 ≡ clients_at old
-left old client sends marks new turn =
+ended_counts : (Ends : Entry → List Message → Resource → Type 0) (mark : Entry → Mark) (old : Resource) → AreEnded old Ends → (sends : List Message) (marks : List Mark) (new : Resource) → EndTurn Ends mark old sends marks new → clients_at new + 1 ≡ clients_at old
+ended_counts Ends mark old ended sends marks new turn =
     elim turn [
       | inl nobody ↦
-          let one = one_holds old.state old.state.phase old.client nobody.entry nobody.leaves.holds.granted in
-          omega (arith, in_parts old, in_parts new, one, ap current nobody.leaves.client_is, none_is, ap (λ (q : List Queued). length q) nobody.leaves.queue_is)
+          let gone = ended nobody.entry sends new nobody.ends in
+          omega (arith, in_parts old, in_parts new, ap current gone.somebody.1, one_is gone.somebody.0, ap current gone.client_is, none_is, ap (λ (q : List Queued). length q) gone.queue_is)
       | inr next ↦
-          let one = one_holds old.state old.state.phase old.client next.entry next.leaves.holds.granted in
-          omega (arith, in_parts old, in_parts new, one, ap current next.asks.client_is, one_is next.next.client, ap (λ (q : List Queued). length q) next.asks.queue_is, ap (λ (q : List Queued). length q) next.queue_was)
+          let gone = ended next.entry next.replies next.between next.ends in
+          omega (arith, in_parts old, in_parts new, ap current gone.somebody.1, one_is gone.somebody.0, ap current next.asks.client_is, one_is next.next.client, ap (λ (q : List Queued). length q) next.asks.queue_is, ap (λ (q : List Queued). length q) next.queue_was)
+    ]
+
+left : (old : Resource) (client : ℕ) (sends : List Message) (marks : List Mark) (new : Resource) → LeaveTurn old client sends marks new → clients_at new + 1 ≡ clients_at old
+left old client sends marks new turn = ended_counts (Leaves old client) Left old (leaves_ended old client) sends marks new turn
+
+cancelled : (old : Resource) (client : ℕ) (sends : List Message) (marks : List Mark) (new : Resource) → CancelTurn old client sends marks new → clients_at new + 1 ≡ clients_at old
+cancelled old client sends marks new turn =
+    elim turn [
+      | inl goes ↦
+          omega (
+            arith,
+            in_parts old,
+            in_parts new,
+            ap (λ (r : Resource). current r.client) goes.new_is,
+            ap (λ (r : Resource). length r.queue) goes.new_is,
+            ap (λ (q : List Queued). length q) goes.queue_was,
+            length-append goes.before (goes.gone ∷ goes.after),
+            length-append goes.before goes.after,
+          )
+      | inr ends ↦ ended_counts (Withdraws old client) Withdrawn old (withdraws_ended old client) sends marks new ends
     ]
 
 received : (old : Resource) (message : Message) (sends : List Message) (marks : List Mark) (new : Resource) → ReceiveTurn old message sends marks new → clients_at new ≡ clients_at old
@@ -92,6 +114,10 @@ pub leave_counts : (old new : NodeState) (client : ℕ) (name : List ℕ) (sends
 leave_counts old new client name sends marks event =
     omega (arith, moves old new name event.resource event.new_is, left (resource_at old name) client sends marks event.resource event.turn)
 
+pub cancel_counts : (old new : NodeState) (client : ℕ) (name : List ℕ) (sends : List Message) (marks : List Mark) → CancelEvent old client name sends marks new → clients_count new + 1 ≡ clients_count old
+cancel_counts old new client name sends marks event =
+    omega (arith, moves old new name event.resource event.new_is, cancelled (resource_at old name) client sends marks event.resource event.turn)
+
 pub receive_counts : (old new : NodeState) (message : Message) (sends : List Message) (marks : List Mark) → ReceiveEvent old message sends marks new → clients_count new ≡ clients_count old
 receive_counts old new message sends marks event =
     let name = name_of message in
@@ -107,5 +133,26 @@ holder_counts node client name entry holds =
       arith,
       in_parts here,
       one_holds here.state here.state.phase here.client entry holds.granted,
+      sum_part clients_at node.resources name (unmet node.me node.nodes name node.start) (nobody_yet node.me node.nodes name node.start),
+    )
+
+-- somebody is here if a client waits or is queued
+waits_here : (r : Resource) (client : ℕ) → IsKeptWaiting r client → 1 ≤ clients_at r
+waits_here r client kept = elim kept [
+  | inl waits ↦
+      let one = one_waits r.state r.state.phase r.client waits.0 waits.1.requested in
+      omega (arith, in_parts r, one)
+  | inr queued ↦ omega (arith, in_parts r, queued.2)
+]
+  where
+    one_waits : (s : State) (phase : Phase) (client : Option ℕ) (e : Entry) → waiting_entry (use_in s phase client) ≡ Some e → current client ≡ 1
+    one_waits s phase None e is = absurd (none-some e is)
+    one_waits s phase (Some client) e is = one_is client
+
+pub kept_waiting_counts : (node : NodeState) (client : ℕ) (name : List ℕ) → IsKeptWaiting (resource_at node name) client → 1 ≤ clients_count node
+kept_waiting_counts node client name kept =
+    omega (
+      arith,
+      waits_here (resource_at node name) client kept,
       sum_part clients_at node.resources name (unmet node.me node.nodes name node.start) (nobody_yet node.me node.nodes name node.start),
     )

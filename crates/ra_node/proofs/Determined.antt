@@ -1,23 +1,25 @@
 -- A state and an event decide what comes of it.
-use Rattle.std.proofs.Common.{◌≡◌, ℕ, ◌<◌, ◌≤◌, ◌⊎◌, Bool, true, false, List, [], ◌∷◌, ◌++◌, sym, ap, ◌∙◌, subst, arith, inl, inr}
+use Rattle.std.proofs.Common.{◌≡◌, ℕ, suc, ◌<◌, ◌≤◌, ◌⊎◌, Bool, true, false, List, [], ◌∷◌, ◌++◌, Any, refl, sym, ap, ◌∙◌, subst, arith, inl, inr}
 use Rattle.std.specs.FinSet as set
 use Rattle.ra_stamp.specs.declared.entry.Entry.{Entry}
 use Rattle.ra_stamp.specs.declared.entry.Mark.{Mark}
-use Rattle.ra_stamp.specs.declared.entry.Mark.TheVariants.{Entered, Left}
+use Rattle.ra_stamp.specs.declared.entry.Mark.TheVariants.{Entered, Left, Withdrawn}
 use Rattle.ra_stamp.specs.declared.message.Message.{Message}
 use Rattle.ra_stamp.specs.declared.message.Message.TheVariants.{Request, Reply}
 use Rattle.ra_stamp.specs.declared.mode.Mode.{Mode}
 use Rattle.ra_automaton.specs.declared.phase.Phase.{Phase}
 use Rattle.ra_automaton.specs.declared.phase.Phase.TheVariants.{Idle, Waiting, Inside}
 use Rattle.ra_automaton.specs.State.{State}
-use Rattle.ra_automaton.specs.Steps.{greatest_number, Begins, RequestStep, TakesReply, ReceiveStep, LeaveStep}
+use Rattle.ra_automaton.specs.Steps.{greatest_number, Begins, RequestStep, TakesReply, ReceiveStep}
 use Rattle.ra_node.specs.declared.queued_client.Queued.{Queued}
-use Rattle.ra_node.specs.Resource.{Resource, Holds}
-use Rattle.ra_node.specs.Turns.{request_marks, next_entry, EntersBy, AsksAtOnce, AskTurn, LeavesToNext, LeaveTurn, ReceiveTurn}
+use Rattle.ra_node.specs.Resource.{Resource, Waits}
+use Rattle.ra_node.specs.Turns.{request_marks, next_entry, EntersBy, AsksAtOnce, AskTurn, Leaves, Withdraws, LeavesQueue, EndsToNext, EndTurn, LeaveTurn, CancelTurn, ReceiveTurn}
 use Rattle.ra_node.specs.Node.{NodeState, resource_at, with_resource}
 use Rattle.ra_stamp.specs.Message.{name_of}
 use Rattle.ra_node.specs.Events.{Event, Happening, NodeEvent, NodeEvents}
-use Rattle.ra_node.specs.Events.Event.{Ask, Leave, Receive}
+use Rattle.ra_node.specs.Events.Event.{Ask, Leave, Cancel, Receive, Forget}
+use Rattle.ra_node.proofs.Endings.{AreEnded, EndsOnce, leaves_ended, leaves_once, withdraws_ended, withdraws_once}
+use Rattle.ra_node.proofs.Forgetting.{forget_one}
 use Rattle.ra_node.proofs.Updates.{stray_or_not}
 use Rattle.ra_node.proofs.Uses.{some_is}
 
@@ -44,9 +46,6 @@ request_one : (old : State) (mode : Mode) (ms ns : List Message) (e f : Bool) (a
 request_one old mode ms ns e f a b p q =
     let begins = begins_one old mode e f a b p.begins q.begins in
     (p.sends_are ∙ sym q.sends_are, begins.0, begins.1)
-
-leave_one : (old : State) (ms ns : List Message) (a b : State) → LeaveStep old ms a → LeaveStep old ns b → (ms ≡ ns) × (a ≡ b)
-leave_one old ms ns a b p q = (p.sends_are ∙ sym q.sends_are, p.new_is ∙ sym q.new_is)
 
 waiting_mode : (seq : ℕ) (a b : Mode) → Waiting seq a ≡ Waiting seq b → a ≡ b
 waiting_mode seq a b e = ap mode_in e
@@ -131,9 +130,6 @@ ask_one old client mode ms ns xs ys a b p q =
       ]
     ]
 
-held_one : (r : Resource) (client : ℕ) (a b : Entry) → Holds r client a → Holds r client b → a ≡ b
-held_one r client a b p q = some_is a b (sym p.granted ∙ q.granted)
-
 not_empty : (q : Queued) (qs rs : List Queued) → rs ≡ [] → rs ≡ q ∷ qs → ⊥
 not_empty q qs rs e is = subst IsEmpty (sym e ∙ is) tt
   where
@@ -156,40 +152,80 @@ nobody_or_next r next rest nobody queue number =
       | inr last ↦ absurd (omega (arith, last, number))
     ]
 
--- a number is left if a client is next
-left_number : (old : Resource) (client : ℕ) (new : Resource) (sends : List Message) (marks : List Mark) → LeavesToNext old client sends marks new → old.state.highest < greatest_number
-left_number old client new sends marks hands = omega (arith, hands.may.number_left, ap (λ (s : State). s.highest) hands.leaves.step.new_is)
+module _ (Ends : Entry → List Message → Resource → Type 0) (mark : Entry → Mark) (old : Resource) (ended : AreEnded old Ends) (once : EndsOnce Ends) where
+  -- a number is left if a client is next
+  left_number : (sends : List Message) (marks : List Mark) (new : Resource) → EndsToNext Ends mark old sends marks new → old.state.highest < greatest_number
+  left_number sends marks new hands = omega (arith, hands.may.number_left, (ended hands.entry hands.replies hands.between hands.ends).step.highest_is)
+
+  end_turn_one : (ms ns : List Message) (xs ys : List Mark) (a b : Resource) → EndTurn Ends mark old ms xs a → EndTurn Ends mark old ns ys b → SameTurn ms xs a ns ys b
+  end_turn_one ms ns xs ys a b p q =
+      elim p [
+        | inl x ↦ elim q [
+          | inl y ↦
+              let same = once x.entry y.entry ms ns a b x.ends y.ends in
+              (same.1, x.marks_are ∙ ap (λ (e : Entry). mark e ∷ []) same.0 ∙ sym y.marks_are, same.2)
+          | inr y ↦ absurd (nobody_or_next old y.next y.rest x.nobody y.queue_was (left_number ns ys b y))
+        ]
+        | inr x ↦ elim q [
+          | inl y ↦ absurd (nobody_or_next old x.next x.rest y.nobody x.queue_was (left_number ms xs a x))
+          | inr y ↦
+              let queues : x.next ∷ x.rest ≡ y.next ∷ y.rest = sym x.queue_was ∙ y.queue_was in
+              let next : x.next ≡ y.next = ap (head_or x.next) queues in
+              let rest : x.rest ≡ y.rest = ap tail_of queues in
+              let same = once x.entry y.entry x.replies y.replies x.between y.between x.ends y.ends in
+              let before : Resource = record y.between { queue = y.rest } in
+              let asks : AsksAtOnce before y.next.client y.next.mode x.requests x.asked a =
+              subst (λ (q : Queued). AsksAtOnce before q.client q.mode x.requests x.asked a) next
+              (subst (λ (r : Resource). AsksAtOnce r x.next.client x.next.mode x.requests x.asked a) (λ i. record (same.2 i) { queue = rest i }) x.asks)
+              in
+              let asked = asks_one before y.next.client y.next.mode x.requests y.requests x.asked y.asked a b asks y.asks in (
+                x.sends_are ∙ (λ i. same.1 i ++ asked.0 i) ∙ sym y.sends_are,
+                x.marks_are ∙ (λ i. mark (same.0 i) ∷ asked.1 i) ∙ sym y.marks_are,
+                asked.2,
+              )
+        ]
+      ]
 
 leave_turn_one : (old : Resource) (client : ℕ) (ms ns : List Message) (xs ys : List Mark) (a b : Resource) → LeaveTurn old client ms xs a → LeaveTurn old client ns ys b → SameTurn ms xs a ns ys b
-leave_turn_one old client ms ns xs ys a b p q =
+leave_turn_one old client ms ns xs ys a b p q = end_turn_one (Leaves old client) Left old (leaves_ended old client) (leaves_once old client) ms ns xs ys a b p q
+
+-- ---- A client that cancels
+
+module _ (client : ℕ) where
+  not_later : (x : Queued) (xs : List Queued) → (Any (λ q. q.client ≡ client) (x ∷ xs) → ⊥) → Any (λ q. q.client ≡ client) xs → ⊥
+  not_later x xs none any = none (suc any.0, any.1, omega (arith, any.2), any.3, any.4)
+
+  -- the queue without the client, by the parts around its first place
+  same_rest : (b b' : List Queued) (g g' : Queued) (a a' : List Queued) → (Any (λ q. q.client ≡ client) b → ⊥) → (Any (λ q. q.client ≡ client) b' → ⊥) → g.client ≡ client → g'.client ≡ client
+      → b ++ g ∷ a ≡ b' ++ g' ∷ a' → b ++ a ≡ b' ++ a'
+  same_rest [] [] g g' a a' none none' here here' is = ap tail_of is
+  same_rest [] (y ∷ ys) g g' a a' none none' here here' is = absurd (none' (0, y, omega arith, refl, sym (ap (λ (q : Queued). q.client) (ap (head_or g) is)) ∙ here))
+  same_rest (x ∷ xs) [] g g' a a' none none' here here' is = absurd (none (0, x, omega arith, refl, ap (λ (q : Queued). q.client) (ap (head_or x) is) ∙ here'))
+  same_rest (x ∷ xs) (y ∷ ys) g g' a a' none none' here here' is =
+      λ i. head_or x (is i) ∷ same_rest xs ys g g' a a' (not_later x xs none) (not_later y ys none') here here' (ap tail_of is) i
+
+leaves_queue_one : (old : Resource) (client : ℕ) (ms ns : List Message) (xs ys : List Mark) (a b : Resource) → LeavesQueue old client ms xs a → LeavesQueue old client ns ys b → SameTurn ms xs a ns ys b
+leaves_queue_one old client ms ns xs ys a b p q =
+    let rest = same_rest client p.before q.before p.gone q.gone p.after q.after p.not_before q.not_before p.client_is q.client_is (sym p.queue_was ∙ q.queue_was) in (
+      p.sends_are ∙ sym q.sends_are,
+      p.marks_are ∙ sym q.marks_are,
+      p.new_is ∙ (λ i. record old { queue = rest i }) ∙ sym q.new_is,
+    )
+
+-- a client that withdraws waited
+waited : (old : Resource) (client : ℕ) (sends : List Message) (marks : List Mark) (new : Resource) → EndTurn (Withdraws old client) Withdrawn old sends marks new → (entry : Entry) × Waits old client entry
+waited old client sends marks new turn = elim turn [ inl nobody ↦ (nobody.entry, nobody.ends.waits) | inr hands ↦ (hands.entry, hands.ends.waits) ]
+
+cancel_turn_one : (old : Resource) (client : ℕ) (ms ns : List Message) (xs ys : List Mark) (a b : Resource) → CancelTurn old client ms xs a → CancelTurn old client ns ys b → SameTurn ms xs a ns ys b
+cancel_turn_one old client ms ns xs ys a b p q =
     elim p [
       | inl x ↦ elim q [
-        | inl y ↦
-            let step = leave_one old.state ms ns a.state b.state x.leaves.step y.leaves.step in (
-              step.0,
-              x.marks_are ∙ ap (λ (e : Entry). Left e ∷ []) (held_one old client x.entry y.entry x.leaves.holds y.leaves.holds) ∙ sym y.marks_are,
-              same_resource a b step.1 (x.leaves.client_is ∙ sym y.leaves.client_is) (x.leaves.queue_is ∙ sym y.leaves.queue_is),
-            )
-        | inr y ↦ absurd (nobody_or_next old y.next y.rest x.nobody y.queue_was (left_number old client b ns ys y))
+        | inl y ↦ leaves_queue_one old client ms ns xs ys a b x y
+        | inr y ↦ let w = waited old client ns ys b y in absurd (x.waits_not w.0 w.1)
       ]
       | inr x ↦ elim q [
-        | inl y ↦ absurd (nobody_or_next old x.next x.rest y.nobody x.queue_was (left_number old client a ms xs x))
-        | inr y ↦
-            let queues : x.next ∷ x.rest ≡ y.next ∷ y.rest = sym x.queue_was ∙ y.queue_was in
-            let next : x.next ≡ y.next = ap (head_or x.next) queues in
-            let rest : x.rest ≡ y.rest = ap tail_of queues in
-            let left = leave_one old.state x.replies y.replies x.between.state y.between.state x.leaves.step y.leaves.step in
-            let between : x.between ≡ y.between = same_resource x.between y.between left.1 (x.leaves.client_is ∙ sym y.leaves.client_is) (x.leaves.queue_is ∙ sym y.leaves.queue_is) in
-            let before : Resource = record y.between { queue = y.rest } in
-            let asks : AsksAtOnce before y.next.client y.next.mode x.requests x.asked a =
-            subst (λ (q : Queued). AsksAtOnce before q.client q.mode x.requests x.asked a) next
-            (subst (λ (r : Resource). AsksAtOnce r x.next.client x.next.mode x.requests x.asked a) (λ i. record (between i) { queue = rest i }) x.asks)
-            in
-            let asked = asks_one before y.next.client y.next.mode x.requests y.requests x.asked y.asked a b asks y.asks in (
-              x.sends_are ∙ (λ i. left.0 i ++ asked.0 i) ∙ sym y.sends_are,
-              x.marks_are ∙ (λ i. Left (held_one old client x.entry y.entry x.leaves.holds y.leaves.holds i) ∷ asked.1 i) ∙ sym y.marks_are,
-              asked.2,
-            )
+        | inl y ↦ let w = waited old client ms xs a x in absurd (y.waits_not w.0 w.1)
+        | inr y ↦ end_turn_one (Withdraws old client) Withdrawn old (withdraws_ended old client) (withdraws_once old client) ms ns xs ys a b x y
       ]
     ]
 
@@ -220,6 +256,9 @@ event_one old a b (Ask client name mode) ms ns xs ys p q =
     same_outcome old name ms ns xs ys p.resource q.resource a b (ask_one (resource_at old name) client mode ms ns xs ys p.resource q.resource p.turn q.turn) p.new_is q.new_is
 event_one old a b (Leave client name) ms ns xs ys p q =
     same_outcome old name ms ns xs ys p.resource q.resource a b (leave_turn_one (resource_at old name) client ms ns xs ys p.resource q.resource p.turn q.turn) p.new_is q.new_is
+event_one old a b (Cancel client name) ms ns xs ys p q =
+    same_outcome old name ms ns xs ys p.resource q.resource a b (cancel_turn_one (resource_at old name) client ms ns xs ys p.resource q.resource p.turn q.turn) p.new_is q.new_is
+event_one old a b Forget ms ns xs ys p q = forget_one old a b ms ns xs ys p q
 event_one old a b (Receive message) ms ns xs ys p q =
     let here = resource_at old (name_of message) in
     let same = receive_turn_one here message ms ns xs ys p.resource q.resource p.turn q.turn in

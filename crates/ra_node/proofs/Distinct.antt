@@ -82,6 +82,56 @@ pub leaves_once : (client : Option ℕ) (queue : List Queued) → Once (standing
 leaves_once None queue h = h
 leaves_once (Some c) queue h = λ i j d before within. h (suc i) (suc j) d (omega (arith, before)) (omega (arith, within))
 
+-- ---- One goes, wherever it is
+
+within_more : (before after : List ℕ) (c d : ℕ) → Contains (before ++ after) d → Contains (before ++ c ∷ after) d
+within_more before after c d at =
+    elim (Contains-append_cases before after d at) [
+      | inl early ↦ Contains-append_left before (c ∷ after) d early
+      | inr late ↦ Contains-append_right before (c ∷ after) d (suc late.0, omega (arith, late.1), late.2)
+    ]
+
+there_before : (before after : List ℕ) (c : ℕ) → Contains (before ++ c ∷ after) c
+there_before before after c = Contains-append_right before (c ∷ after) c (0, omega arith, refl)
+
+first_apart : (c : ℕ) (cs : List ℕ) → Once (c ∷ cs) → Contains cs c → ⊥
+first_apart c cs h at = h 0 (suc at.0) c (omega arith) (omega (arith, at.1)) (sym at.2)
+
+rest_once : (c : ℕ) (cs : List ℕ) → Once (c ∷ cs) → Once cs
+rest_once c cs h = λ i j d before within. h (suc i) (suc j) d (omega (arith, before)) (omega (arith, within))
+
+gone_once : (before : List ℕ) (c : ℕ) (after : List ℕ) → Once (before ++ c ∷ after) → Once (before ++ after)
+gone_once [] c after h = rest_once c after h
+gone_once (x ∷ xs) c after h =
+    AllPairs-cons (λ a b. a ≢ b) x (xs ++ after)
+    (λ k d lt e. first_apart x (xs ++ c ∷ after) h (within_more xs after c x (k, lt, get_or_default (xs ++ after) k x d lt ∙ sym e)))
+    (gone_once xs c after (rest_once x (xs ++ c ∷ after) h))
+
+gone_apart : (before : List ℕ) (c : ℕ) (after : List ℕ) → Once (before ++ c ∷ after) → Contains (before ++ after) c → ⊥
+gone_apart [] c after h at = first_apart c after h at
+gone_apart (x ∷ xs) c after h (zero, lt, e) = first_apart x (xs ++ c ∷ after) h (subst (λ (y : ℕ). Contains (xs ++ c ∷ after) y) (sym e) (there_before xs after c))
+gone_apart (x ∷ xs) c after h (suc k, lt, e) = gone_apart xs c after (rest_once x (xs ++ c ∷ after) h) (k, omega (arith, lt), e)
+
+-- a client that is taken out of a queue is not in it any more, and the others are there once
+pub taken_apart : (before : List Queued) (gone : Queued) (after : List Queued) → Once (map (λ q. q.client) (before ++ gone ∷ after)) → Contains (map (λ q. q.client) (before ++ after)) gone.client → ⊥
+taken_apart before gone after h at =
+    gone_apart (map (λ q. q.client) before) gone.client (map (λ q. q.client) after)
+    (subst Once (map-append (λ (q : Queued). q.client) before (gone ∷ after)) h)
+    (subst (λ (cs : List ℕ). Contains cs gone.client) (map-append (λ (q : Queued). q.client) before after) at)
+
+-- nor is it queued before its place
+pub taken_apart_before : (before : List Queued) (gone : Queued) (after : List Queued) → Once (map (λ q. q.client) (before ++ gone ∷ after)) → Any (λ q. q.client ≡ gone.client) before → ⊥
+taken_apart_before before gone after h any =
+    taken_apart before gone after h
+    (subst (λ (cs : List ℕ). Contains cs gone.client) (sym (map-append (λ (q : Queued). q.client) before after))
+    (Contains-append_left (map (λ q. q.client) before) (map (λ q. q.client) after) gone.client (queues_has before gone.client any)))
+
+pub taken_once : (client : Option ℕ) (before : List Queued) (gone : Queued) (after : List Queued) → Once (standing client (before ++ gone ∷ after)) → Once (standing client (before ++ after))
+taken_once client before gone after h =
+    let first = option_to_list client in
+    let parts = λ (qs : List Queued). ap (λ (cs : List ℕ). first ++ cs) (map-append (λ (q : Queued). q.client) before qs) ∙ sym (append_assoc first (map (λ q. q.client) before) (map (λ q. q.client) qs)) in
+    subst Once (sym (parts after)) (gone_once (first ++ map (λ q. q.client) before) gone.client (map (λ q. q.client) after) (subst Once (parts (gone ∷ after)) h))
+
 -- and the first of the queue takes its place
 pub hands_once : (client : Option ℕ) (next : Queued) (rest : List Queued) → Once (standing client (next ∷ rest)) → Once (standing (Some next.client) rest)
 hands_once client next rest h = leaves_once client (next ∷ rest) h

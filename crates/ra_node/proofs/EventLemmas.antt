@@ -11,14 +11,16 @@ use Rattle.ra_stamp.specs.Message.{name_of, seq_of}
 use Rattle.ra_automaton.specs.State.{State, IsForNode, IsAddressed}
 use Rattle.ra_node.specs.Resource.{Resource, unmet, use_of, IsConsistentResource}
 use Rattle.ra_node.specs.Node.{NodeState, resource_at, IsConsistentNode}
-use Rattle.ra_node.specs.Events.{AskEvent, LeaveEvent, ReceiveEvent, Event, name_of_event, NodeEvent}
+use Rattle.ra_node.specs.Forgetting.{raised}
+use Rattle.ra_node.specs.Events.{AskEvent, LeaveEvent, CancelEvent, ReceiveEvent, Event, IsNamed, name_of_event, NodeEvent}
+use Rattle.ra_node.specs.Events.Event.{Ask, Leave, Cancel, Receive, Forget}
 use Rattle.ra_node.specs.Turns.{EntersBy}
 use Rattle.ra_node.specs.Carried.{IsSend, IsMark, MarksLead, replies_at_most, entries_at_most}
-use Rattle.ra_node.proofs.Leading.{ask_leads, leave_leads, receive_leads}
-use Rattle.ra_node.proofs.Room.{ask_room, leave_turn_room, receive_room}
+use Rattle.ra_node.proofs.Leading.{ask_leads, leave_leads, cancel_leads, receive_leads}
+use Rattle.ra_node.proofs.Room.{ask_room, leave_turn_room, cancel_turn_room, receive_room}
 use Rattle.ra_node.proofs.Updates.{IsUpdate, receive_updates, event_updates, updated_here, others_stay, node_stays}
 use Rattle.ra_node.proofs.Sends.{answers_are_sends}
-use Rattle.ra_node.proofs.Kept.{ask_sends, ask_marks, leave_sends, leave_marks, receive_marks}
+use Rattle.ra_node.proofs.Kept.{ask_sends, ask_marks, leave_sends, leave_marks, cancel_sends, cancel_marks, receive_marks}
 
 -- ---- Messages and marks
 
@@ -54,12 +56,26 @@ leave_event_sends old client name sends marks new h event =
     sends_moved (λ m. 1 ≤ seq_of m) sends (resource_at old name).state old.me old.nodes name here.me_is here.nodes_is here.name_is
     (leave_sends (resource_at old name) client sends marks event.resource here.state event.turn)
 
+pub cancel_event_sends : (old : NodeState) (client : ℕ) (name : List ℕ) (sends : List Message) (marks : List Mark) (new : NodeState) → IsConsistentNode old → CancelEvent old client name sends marks new
+    → AreSends old.me old.nodes name (λ m. 1 ≤ seq_of m) sends
+cancel_event_sends old client name sends marks new h event =
+    let here = h.each name in
+    sends_moved (λ m. 1 ≤ seq_of m) sends (resource_at old name).state old.me old.nodes name here.me_is here.nodes_is here.name_is
+    (cancel_sends (resource_at old name) client sends marks event.resource here.state event.turn)
+
 pub leave_event_marks : (old : NodeState) (client : ℕ) (name : List ℕ) (sends : List Message) (marks : List Mark) (new : NodeState) → IsConsistentNode old → LeaveEvent old client name sends marks new
     → All (IsMark old.me name) marks
 leave_event_marks old client name sends marks new h event =
     let here = h.each name in
     marks_moved marks (resource_at old name).state old.me name here.me_is here.name_is
     (leave_marks (resource_at old name) client sends marks event.resource here.state event.turn)
+
+pub cancel_event_marks : (old : NodeState) (client : ℕ) (name : List ℕ) (sends : List Message) (marks : List Mark) (new : NodeState) → IsConsistentNode old → CancelEvent old client name sends marks new
+    → All (IsMark old.me name) marks
+cancel_event_marks old client name sends marks new h event =
+    let here = h.each name in
+    marks_moved marks (resource_at old name).state old.me name here.me_is here.name_is
+    (cancel_marks (resource_at old name) client sends marks event.resource here.state event.turn)
 
 -- the automaton's words for a message that the node may take
 pub addressed : (n : NodeState) (message : Message) (s : State) → s.me ≡ n.me → s.nodes ≡ n.nodes → IsForNode n.me n.nodes message → IsAddressed s message
@@ -96,6 +112,11 @@ pub leave_event_room : (old : NodeState) (client : ℕ) (name : List ℕ) (sends
 leave_event_room old client name sends marks new h event =
     subst (λ (n : ℕ). (length sends ≤ 2 * n) × (length marks ≤ 3)) (h.each name).nodes_is (leave_turn_room (resource_at old name) client sends marks event.resource (h.each name).state event.turn)
 
+pub cancel_event_room : (old : NodeState) (client : ℕ) (name : List ℕ) (sends : List Message) (marks : List Mark) (new : NodeState) → IsConsistentNode old → CancelEvent old client name sends marks new
+    → (length sends ≤ 2 * old.nodes) × (length marks ≤ 3)
+cancel_event_room old client name sends marks new h event =
+    subst (λ (n : ℕ). (length sends ≤ 2 * n) × (length marks ≤ 3)) (h.each name).nodes_is (cancel_turn_room (resource_at old name) client sends marks event.resource (h.each name).state event.turn)
+
 pub receive_event_room : (old : NodeState) (message : Message) (sends : List Message) (marks : List Mark) (new : NodeState) → ReceiveEvent old message sends marks new
     → (length sends ≤ 1) × (length marks ≤ 1)
 receive_event_room old message sends marks new event = receive_room (resource_at old (name_of message)) message sends marks event.resource event.turn
@@ -129,6 +150,11 @@ pub leave_event_leads : (old : NodeState) (client : ℕ) (name : List ℕ) (send
 leave_event_leads old client name sends marks new event =
     leads_on old new name event.resource marks (inr event.new_is) (leave_leads (resource_at old name) client sends marks event.resource event.turn)
 
+pub cancel_event_leads : (old : NodeState) (client : ℕ) (name : List ℕ) (sends : List Message) (marks : List Mark) (new : NodeState) → CancelEvent old client name sends marks new
+    → MarksLead (use_of (resource_at old name)) marks (use_of (resource_at new name))
+cancel_event_leads old client name sends marks new event =
+    leads_on old new name event.resource marks (inr event.new_is) (cancel_leads (resource_at old name) client sends marks event.resource event.turn)
+
 pub receive_event_leads : (old : NodeState) (message : Message) (sends : List Message) (marks : List Mark) (new : NodeState) → ReceiveEvent old message sends marks new
     → MarksLead (use_of (resource_at old (name_of message))) marks (use_of (resource_at new (name_of message)))
 receive_event_leads old message sends marks new event =
@@ -136,20 +162,39 @@ receive_event_leads old message sends marks new event =
 
 -- ---- An event on one name leaves all other names
 
-pub other_entry : (old new : NodeState) (event : Event) (sends : List Message) (marks : List Mark) (other : List ℕ) → NodeEvent old event sends marks new → other ≢ name_of_event event
+pub other_entry : (old new : NodeState) (event : Event) (sends : List Message) (marks : List Mark) (other : List ℕ) → NodeEvent old event sends marks new → IsNamed event → other ≢ name_of_event event
     → finmap.get new.resources other ≡ finmap.get old.resources other
-other_entry old new event sends marks other h apart =
-    let update = event_updates old new event sends marks h in
+other_entry old new event sends marks other h named apart =
+    let update = event_updates old new event sends marks h named in
     others_stay old new (name_of_event event) update.0 update.1 other apart
 
-pub same_node : (old new : NodeState) (event : Event) (sends : List Message) (marks : List Mark) → NodeEvent old event sends marks new → (new.me ≡ old.me) × (new.nodes ≡ old.nodes) × (new.start ≡ old.start)
-same_node old new event sends marks h =
-    let update = event_updates old new event sends marks h in
+pub same_node_named : (old new : NodeState) (event : Event) (sends : List Message) (marks : List Mark) → NodeEvent old event sends marks new → IsNamed event → (new.me ≡ old.me) × (new.nodes ≡ old.nodes) × (new.start ≡ old.start)
+same_node_named old new event sends marks h named =
+    let update = event_updates old new event sends marks h named in
     node_stays old new (name_of_event event) update.0 update.1
 
-pub other_resource : (old new : NodeState) (event : Event) (sends : List Message) (marks : List Mark) (other : List ℕ) → NodeEvent old event sends marks new → other ≢ name_of_event event
+pub same_start : (old new : NodeState) (event : Event) (sends : List Message) (marks : List Mark) → NodeEvent old event sends marks new → IsNamed event → new.start ≡ old.start
+same_start old new event sends marks h named = (same_node_named old new event sends marks h named).2
+
+pub same_node : (old new : NodeState) (event : Event) (sends : List Message) (marks : List Mark) → NodeEvent old event sends marks new → (new.me ≡ old.me) × (new.nodes ≡ old.nodes) × (old.start ≤ new.start)
+same_node old new event sends marks h = of event h
+  where
+    rises : (event : Event) → NodeEvent old event sends marks new → IsNamed event → (new.me ≡ old.me) × (new.nodes ≡ old.nodes) × (old.start ≤ new.start)
+    rises event h named = let same = same_node_named old new event sends marks h named in (same.0, same.1, omega (arith, same.2))
+
+    of : (event : Event) → NodeEvent old event sends marks new → (new.me ≡ old.me) × (new.nodes ≡ old.nodes) × (old.start ≤ new.start)
+    of (Ask client name mode) h = rises (Ask client name mode) h tt
+    of (Leave client name) h = rises (Leave client name) h tt
+    of (Cancel client name) h = rises (Cancel client name) h tt
+    of (Receive message) h = rises (Receive message) h tt
+    of Forget h = (h.me_is, h.nodes_is, omega (arith, h.start_is))
+
+pub other_resource : (old new : NodeState) (event : Event) (sends : List Message) (marks : List Mark) (other : List ℕ) → NodeEvent old event sends marks new → IsNamed event → other ≢ name_of_event event
     → resource_at new other ≡ resource_at old other
-other_resource old new event sends marks other h apart =
-    let entry = other_entry old new event sends marks other h apart in
-    let node = same_node old new event sends marks h in
+other_resource old new event sends marks other h named apart =
+    let entry = other_entry old new event sends marks other h named apart in
+    let node = same_node_named old new event sends marks h named in
     λ i. unwrap_or (entry i) (unmet (node.0 i) (node.1 i) other (node.2 i))
+
+pub forgets_all : (old new : NodeState) (sends : List Message) (marks : List Mark) → NodeEvent old Forget sends marks new → (number : ℕ) × ((name : List ℕ) → resource_at new name ≡ raised number (resource_at old name))
+forgets_all old new sends marks h = (h.number, h.resources)

@@ -1,9 +1,10 @@
 -- What a turn keeps of a resource, and what its marks are about.
-use Rattle.std.proofs.Common.{◌≡◌, ◌≢◌, ℕ, ◌+◌, ◌≤◌, Bool, true, false, List, [], ◌∷◌, All, Option, Some, None, refl, sym, ap, ◌∙◌, subst, arith, inl, inr}
+use Rattle.std.proofs.Common.{◌≡◌, ◌≢◌, length, ℕ, ◌+◌, ◌≤◌, Bool, true, false, List, [], ◌∷◌, All, Option, Some, None, refl, sym, ap, ◌∙◌, subst, arith, inl, inr}
 use Rattle.std.proofs.lemmas.List.Elements.{All-nil, All-cons, All-append}
 use Rattle.ra_stamp.specs.declared.entry.Entry.{Entry}
 use Rattle.ra_stamp.specs.declared.entry.Mark.{Mark}
-use Rattle.ra_stamp.specs.declared.entry.Mark.TheVariants.{Requested, Entered, Left}
+use Rattle.ra_stamp.specs.declared.entry.Mark.TheVariants.{Requested, Entered, Left, Withdrawn}
+use Rattle.ra_stamp.specs.Mark.{entry_of_mark}
 use Rattle.ra_stamp.specs.declared.message.Message.{Message}
 use Rattle.ra_stamp.specs.declared.message.Message.TheVariants.{Request, Reply}
 use Rattle.ra_stamp.specs.declared.mode.Mode.{Mode}
@@ -11,14 +12,17 @@ use Rattle.ra_stamp.specs.Message.{to_of}
 use Rattle.ra_automaton.specs.declared.phase.Phase.{Phase}
 use Rattle.ra_automaton.specs.declared.phase.Phase.TheVariants.{Idle, Waiting, Inside}
 use Rattle.ra_automaton.specs.State.{State, HasNumber, IsOtherNode, IsConsistent}
-use Rattle.ra_automaton.specs.Steps.{greatest_number, RequestStep, LeaveStep, ReceiveStep}
-use Rattle.ra_node.specs.Resource.{Resource, use_in, held_entry, ClientFits, IsConsistentResource}
-use Rattle.ra_node.specs.Turns.{request_marks, next_entry, EntersBy, AskTurn, Leaves, LeavesToNext, LeaveTurn, ReceiveTurn}
+use Rattle.ra_automaton.specs.Steps.{greatest_number, RequestStep, ReceiveStep}
+use Rattle.ra_automaton.proofs.Ending.{EndStep}
+use Rattle.ra_node.specs.Resource.{Resource, use_in, held_entry, waiting_entry, ClientFits, IsConsistentResource}
+use Rattle.ra_node.specs.Turns.{request_marks, next_entry, EntersBy, AskTurn, Leaves, Withdraws, EndsToNext, EndTurn, LeaveTurn, CancelTurn, ReceiveTurn}
 use Rattle.ra_node.specs.Carried.{IsMark}
 use Rattle.ra_node.specs.declared.queued_client.Queued.{Queued}
 use Rattle.std.proofs.lemmas.Option.{none-some}
 use Rattle.ra_node.proofs.Uses.{some_is}
-use Rattle.ra_node.proofs.Distinct.{standing, Once, asks_once, queues_once, leaves_once, hands_once}
+use Rattle.std.proofs.lemmas.List.{length-append}
+use Rattle.ra_node.proofs.Distinct.{standing, Once, asks_once, queues_once, leaves_once, hands_once, taken_once}
+use Rattle.ra_node.proofs.Endings.{AreEnded, leaves_ended, withdraws_ended}
 use Rattle.ra_node.proofs.Sends.{IsNumberedSend, requests_are_sends, replies_are_sends}
 
 -- ---- What a step keeps of a state
@@ -39,16 +43,17 @@ request_keeps old mode sends entered new step =
       | inr alone ↦ kept_by old new _ alone.new_is (record { me_is = refl; nodes_is = refl; name_is = refl; higher = omega arith })
     ]
 
-pub leave_keeps : (old : State) (sends : List Message) (new : State) → LeaveStep old sends new → Keeps old new
-leave_keeps old sends new step = kept_by old new _ step.new_is (record { me_is = refl; nodes_is = refl; name_is = refl; higher = omega arith })
+pub end_keeps : (old : State) (sends : List Message) (new : State) → EndStep old sends new → Keeps old new
+end_keeps old sends new step = record { me_is = step.me_is; nodes_is = step.nodes_is; name_is = step.name_is; higher = omega (arith, step.highest_is) }
 
 keeps_on : (a b c : State) → Keeps a b → Keeps b c → Keeps a c
 keeps_on a b c p q = record { me_is = q.me_is ∙ p.me_is; nodes_is = q.nodes_is ∙ p.nodes_is; name_is = q.name_is ∙ p.name_is; higher = omega (arith, p.higher, q.higher) }
 
-handed_keeps : (old : Resource) (client : ℕ) (sends : List Message) (marks : List Mark) (new : Resource) → LeavesToNext old client sends marks new → Keeps old.state new.state
-handed_keeps old client sends marks new hands =
+handed_keeps : (Ends : Entry → List Message → Resource → Type 0) (mark : Entry → Mark) (old : Resource) → AreEnded old Ends → (sends : List Message) (marks : List Mark) (new : Resource) → EndsToNext Ends mark old sends marks new → Keeps old.state new.state
+handed_keeps Ends mark old ended sends marks new hands =
     let between = hands.between.state in
-    keeps_on old.state between new.state (leave_keeps old.state hands.replies between hands.leaves.step) (request_keeps between hands.next.mode hands.requests hands.asks.entered new.state hands.asks.step)
+    keeps_on old.state between new.state (end_keeps old.state hands.replies between (ended hands.entry hands.replies hands.between hands.ends).step)
+    (request_keeps between hands.next.mode hands.requests hands.asks.entered new.state hands.asks.step)
 
 receive_keeps : (old : State) (message : Message) (sends : List Message) (entered : Bool) (new : State) → ReceiveStep old message sends entered new → Keeps old new
 receive_keeps old (Request from to name mode seq) sends entered new step =
@@ -160,30 +165,53 @@ module _ (me nodes : ℕ) (name : List ℕ) (start : ℕ) where
             (λ idle some. absurd (queues.in_use (sym (ap (λ (s : State). s.phase) same) ∙ idle)))
       ]
 
-  pub leave_kept : (old : Resource) (client : ℕ) (sends : List Message) (marks : List Mark) (new : Resource) → LeaveTurn old client sends marks new
+  -- the current request ends, and the next client may ask
+  end_kept : (Ends : Entry → List Message → Resource → Type 0) (mark : Entry → Mark) (old : Resource) → AreEnded old Ends → (sends : List Message) (marks : List Mark) (new : Resource) → EndTurn Ends mark old sends marks new
       → IsConsistent new.state → IsConsistentResource me nodes name start old → IsConsistentResource me nodes name start new
-  leave_kept old client sends marks new turn state h =
+  end_kept Ends mark old ended sends marks new turn state h =
       elim turn [
-        | inl leaves ↦
-            let left = leaves.leaves in
-            let keeps = leave_keeps old.state sends new.state left.step in
-            let idle : new.state.phase ≡ Idle = ap (λ (s : State). s.phase) left.step.new_is in
+        | inl nobody ↦
+            let gone = ended nobody.entry sends new nobody.ends in
+            let keeps = end_keeps old.state sends new.state gone.step in
             kept_resource old new h keeps state
-            (subst (λ (p : Phase). ClientFits p new.client) (sym idle) left.client_is)
-            (subst Once (λ i. standing (sym left.client_is i) (sym left.queue_is i)) (leaves_once old.client old.queue h.once))
-            (λ _ some. elim leaves.nobody [
-              | inl none ↦ absurd (some (left.queue_is ∙ none))
+            (subst (λ (p : Phase). ClientFits p new.client) (sym gone.step.idle) gone.client_is)
+            (subst Once (λ i. standing (sym gone.client_is i) (sym gone.queue_is i)) (leaves_once old.client old.queue h.once))
+            (λ _ some. elim nobody.nobody [
+              | inl none ↦ absurd (some (gone.queue_is ∙ none))
               | inr last ↦ omega (arith, last, keeps.higher)
             ])
         | inr hands ↦
             let between = hands.between.state in
             let asks = hands.asks in
             let busy = request_is_busy between hands.next.mode hands.requests asks.entered new.state asks.step in
-            kept_resource old new h (handed_keeps old client sends marks new hands) state
+            kept_resource old new h (handed_keeps Ends mark old ended sends marks new hands) state
             (subst (λ (c : Option ℕ). ClientFits new.state.phase c) (sym asks.client_is) (some_fits new.state.phase hands.next.client busy))
             (subst Once (λ i. standing (sym asks.client_is i) (sym asks.queue_is i))
             (hands_once old.client hands.next hands.rest (subst (λ (qs : List Queued). Once (standing old.client qs)) hands.queue_was h.once)))
             (λ idle some. absurd (not_idle new.state.phase busy idle))
+      ]
+
+  pub leave_kept : (old : Resource) (client : ℕ) (sends : List Message) (marks : List Mark) (new : Resource) → LeaveTurn old client sends marks new
+      → IsConsistent new.state → IsConsistentResource me nodes name start old → IsConsistentResource me nodes name start new
+  leave_kept old client sends marks new turn state h = end_kept (Leaves old client) Left old (leaves_ended old client) sends marks new turn state h
+
+  pub cancel_kept : (old : Resource) (client : ℕ) (sends : List Message) (marks : List Mark) (new : Resource) → CancelTurn old client sends marks new
+      → IsConsistent new.state → IsConsistentResource me nodes name start old → IsConsistentResource me nodes name start new
+  cancel_kept old client sends marks new turn state h =
+      elim turn [
+        | inr ends ↦ end_kept (Withdraws old client) Withdrawn old (withdraws_ended old client) sends marks new ends state h
+        | inl goes ↦
+            let some : old.queue ≢ [] = λ none. absurd (omega (arith, ap length goes.queue_was, ap length none, length-append goes.before (goes.gone ∷ goes.after))) in
+            subst (λ (r : Resource). IsConsistentResource me nodes name start r) (sym goes.new_is) (record {
+              state = h.state;
+              me_is = h.me_is;
+              nodes_is = h.nodes_is;
+              name_is = h.name_is;
+              from_start = h.from_start;
+              client_fits = h.client_fits;
+              once = taken_once old.client goes.before goes.gone goes.after (subst (λ (qs : List Queued). Once (standing old.client qs)) goes.queue_was h.once);
+              queue_stays = λ idle _. h.queue_stays idle some;
+            })
       ]
 
   pub receive_kept : (old : Resource) (message : Message) (sends : List Message) (marks : List Mark) (new : Resource) → ReceiveTurn old message sends marks new
@@ -213,20 +241,32 @@ ask_sends old client mode sends marks new turn =
       | inr queues ↦ subst (λ (ms : List Message). All (IsNumberedSend old.state) ms) (sym queues.sends_are) (All-nil (IsNumberedSend old.state))
     ]
 
-leave_step_sends : (old : State) (sends : List Message) (new : State) → IsConsistent old → LeaveStep old sends new → All (IsNumberedSend old) sends
-leave_step_sends old sends new h step = subst (λ (ms : List Message). All (IsNumberedSend old) ms) (sym step.sends_are) (replies_are_sends old h)
+end_step_sends : (old : State) (sends : List Message) (new : State) → IsConsistent old → EndStep old sends new → All (IsNumberedSend old) sends
+end_step_sends old sends new h step = subst (λ (ms : List Message). All (IsNumberedSend old) ms) (sym step.sends_are) (replies_are_sends old h)
 
-pub leave_sends : (old : Resource) (client : ℕ) (sends : List Message) (marks : List Mark) (new : Resource) → IsConsistent old.state → LeaveTurn old client sends marks new → All (IsNumberedSend old.state) sends
-leave_sends old client sends marks new h turn =
+end_sends : (Ends : Entry → List Message → Resource → Type 0) (mark : Entry → Mark) (old : Resource) → AreEnded old Ends → (sends : List Message) (marks : List Mark) (new : Resource) → IsConsistent old.state → EndTurn Ends mark old sends marks new
+    → All (IsNumberedSend old.state) sends
+end_sends Ends mark old ended sends marks new h turn =
     elim turn [
-      | inl leaves ↦ leave_step_sends old.state sends new.state h leaves.leaves.step
+      | inl nobody ↦ end_step_sends old.state sends new.state h (ended nobody.entry sends new nobody.ends).step
       | inr hands ↦
           let between = hands.between.state in
-          let keeps = leave_keeps old.state hands.replies between hands.leaves.step in
+          let step = (ended hands.entry hands.replies hands.between hands.ends).step in
+          let keeps = end_keeps old.state hands.replies between step in
           subst (λ (ms : List Message). All (IsNumberedSend old.state) ms) (sym hands.sends_are)
           (All-append (IsNumberedSend old.state) hands.replies hands.requests
-          (leave_step_sends old.state hands.replies between h hands.leaves.step)
+          (end_step_sends old.state hands.replies between h step)
           (λ k d lt. IsSendOf-moved old.state between _ keeps.me_is keeps.nodes_is keeps.name_is (request_sends between hands.next.mode hands.requests hands.asks.entered new.state hands.asks.step k d lt)))
+    ]
+
+pub leave_sends : (old : Resource) (client : ℕ) (sends : List Message) (marks : List Mark) (new : Resource) → IsConsistent old.state → LeaveTurn old client sends marks new → All (IsNumberedSend old.state) sends
+leave_sends old client sends marks new h turn = end_sends (Leaves old client) Left old (leaves_ended old client) sends marks new h turn
+
+pub cancel_sends : (old : Resource) (client : ℕ) (sends : List Message) (marks : List Mark) (new : Resource) → IsConsistent old.state → CancelTurn old client sends marks new → All (IsNumberedSend old.state) sends
+cancel_sends old client sends marks new h turn =
+    elim turn [
+      | inl goes ↦ subst (λ (ms : List Message). All (IsNumberedSend old.state) ms) (sym goes.sends_are) (All-nil (IsNumberedSend old.state))
+      | inr ends ↦ end_sends (Withdraws old client) Withdrawn old (withdraws_ended old client) sends marks new h ends
     ]
 
 -- ---- The marks of each turn
@@ -236,9 +276,6 @@ requested_marked me name e node is low = record { node_is = node; name_is = is; 
 
 entered_marked : (me : ℕ) (name : List ℕ) (e : Entry) → e.stamp.node ≡ me → e.name ≡ name → 1 ≤ e.stamp.seq → IsMark me name (Entered e)
 entered_marked me name e node is low = record { node_is = node; name_is = is; numbered = low }
-
-left_marked : (me : ℕ) (name : List ℕ) (e : Entry) → e.stamp.node ≡ me → e.name ≡ name → 1 ≤ e.stamp.seq → IsMark me name (Left e)
-left_marked me name e node is low = record { node_is = node; name_is = is; numbered = low }
 
 request_marked : (me : ℕ) (name : List ℕ) (entered : Bool) (e : Entry) → e.stamp.node ≡ me → e.name ≡ name → 1 ≤ e.stamp.seq → All (IsMark me name) (request_marks entered e)
 request_marked me name false e node is low = All-cons (IsMark me name) (Requested e) [] (requested_marked me name e node is low) (All-nil (IsMark me name))
@@ -267,26 +304,57 @@ holder_is_own s (Waiting seq mode) (Some client) e numbered is = absurd (none-so
 holder_is_own s (Inside seq mode) None e numbered is = absurd (none-some e is)
 holder_is_own s (Inside seq mode) (Some client) e numbered is = subst (λ (x : Entry). IsOwn s x) (some_is _ e is) (record { node_is = refl; name_is = refl; numbered = numbered.0 })
 
--- the mark of a client that leaves, before others
-left_first : (old : Resource) (client : ℕ) (entry : Entry) (sends : List Message) (new : Resource) (marks : List Mark) → IsConsistent old.state → Leaves old client entry sends new
-    → All (IsMark old.state.me old.state.name) marks → All (IsMark old.state.me old.state.name) (Left entry ∷ marks)
-left_first old client entry sends new marks h leaves others =
-    let own = holder_is_own old.state old.state.phase old.client entry h.numbered leaves.holds.granted in
-    All-cons (IsMark old.state.me old.state.name) (Left entry) marks (left_marked old.state.me old.state.name entry own.node_is own.name_is own.numbered) others
+pub waiter_is_own : (s : State) (phase : Phase) (client : Option ℕ) (e : Entry) → HasNumber phase s.highest → waiting_entry (use_in s phase client) ≡ Some e → IsOwn s e
+waiter_is_own s Idle None e numbered is = absurd (none-some e is)
+waiter_is_own s Idle (Some client) e numbered is = absurd (none-some e is)
+waiter_is_own s (Inside seq mode) None e numbered is = absurd (none-some e is)
+waiter_is_own s (Inside seq mode) (Some client) e numbered is = absurd (none-some e is)
+waiter_is_own s (Waiting seq mode) None e numbered is = absurd (none-some e is)
+waiter_is_own s (Waiting seq mode) (Some client) e numbered is = subst (λ (x : Entry). IsOwn s x) (some_is _ e is) (record { node_is = refl; name_is = refl; numbered = numbered.0 })
+
+module _ (Ends : Entry → List Message → Resource → Type 0) (mark : Entry → Mark) (tells : (e : Entry) → entry_of_mark (mark e) ≡ e) (old : Resource) (ended : AreEnded old Ends) (h : IsConsistent old.state) where
+  ended_is_own : (entry : Entry) (sends : List Message) (new : Resource) → Ends entry sends new → IsOwn old.state entry
+  ended_is_own entry sends new ends = elim (ended entry sends new ends).was [
+    | inl held ↦ holder_is_own old.state old.state.phase old.client entry h.numbered held
+    | inr waits ↦ waiter_is_own old.state old.state.phase old.client entry h.numbered waits
+  ]
+
+  -- the mark of the end, before others
+  end_first : (entry : Entry) (sends : List Message) (new : Resource) (marks : List Mark) → Ends entry sends new
+      → All (IsMark old.state.me old.state.name) marks → All (IsMark old.state.me old.state.name) (mark entry ∷ marks)
+  end_first entry sends new marks ends others =
+      let own = ended_is_own entry sends new ends in
+      let told = tells entry in
+      All-cons (IsMark old.state.me old.state.name) (mark entry) marks
+      (record {
+        node_is = ap (λ (x : Entry). x.stamp.node) told ∙ own.node_is;
+        name_is = ap (λ (x : Entry). x.name) told ∙ own.name_is;
+        numbered = subst (λ (x : Entry). 1 ≤ x.stamp.seq) (sym told) own.numbered;
+      }) others
+
+  end_marks : (sends : List Message) (marks : List Mark) (new : Resource) → EndTurn Ends mark old sends marks new → All (IsMark old.state.me old.state.name) marks
+  end_marks sends marks new turn =
+      elim turn [
+        | inl nobody ↦
+            subst (λ (ms : List Mark). All (IsMark old.state.me old.state.name) ms) (sym nobody.marks_are)
+            (end_first nobody.entry sends new [] nobody.ends (All-nil (IsMark old.state.me old.state.name)))
+        | inr hands ↦
+            let asks = hands.asks in
+            let keeps = end_keeps old.state hands.replies hands.between.state (ended hands.entry hands.replies hands.between hands.ends).step in
+            let requested = request_marked old.state.me old.state.name asks.entered (next_entry hands.between hands.next.client hands.next.mode) keeps.me_is keeps.name_is (omega arith) in
+            subst (λ (ms : List Mark). All (IsMark old.state.me old.state.name) ms) (sym hands.marks_are)
+            (end_first hands.entry hands.replies hands.between hands.asked hands.ends
+            (subst (λ (ms : List Mark). All (IsMark old.state.me old.state.name) ms) (sym asks.marks_are) requested))
+      ]
 
 pub leave_marks : (old : Resource) (client : ℕ) (sends : List Message) (marks : List Mark) (new : Resource) → IsConsistent old.state → LeaveTurn old client sends marks new → All (IsMark old.state.me old.state.name) marks
-leave_marks old client sends marks new h turn =
+leave_marks old client sends marks new h turn = end_marks (Leaves old client) Left (λ e. refl) old (leaves_ended old client) h sends marks new turn
+
+pub cancel_marks : (old : Resource) (client : ℕ) (sends : List Message) (marks : List Mark) (new : Resource) → IsConsistent old.state → CancelTurn old client sends marks new → All (IsMark old.state.me old.state.name) marks
+cancel_marks old client sends marks new h turn =
     elim turn [
-      | inl leaves ↦
-          subst (λ (ms : List Mark). All (IsMark old.state.me old.state.name) ms) (sym leaves.marks_are)
-          (left_first old client leaves.entry sends new [] h leaves.leaves (All-nil (IsMark old.state.me old.state.name)))
-      | inr hands ↦
-          let asks = hands.asks in
-          let keeps = leave_keeps old.state hands.replies hands.between.state hands.leaves.step in
-          let requested = request_marked old.state.me old.state.name asks.entered (next_entry hands.between hands.next.client hands.next.mode) keeps.me_is keeps.name_is (omega arith) in
-          subst (λ (ms : List Mark). All (IsMark old.state.me old.state.name) ms) (sym hands.marks_are)
-          (left_first old client hands.entry hands.replies hands.between hands.asked h hands.leaves
-          (subst (λ (ms : List Mark). All (IsMark old.state.me old.state.name) ms) (sym asks.marks_are) requested))
+      | inl goes ↦ subst (λ (ms : List Mark). All (IsMark old.state.me old.state.name) ms) (sym goes.marks_are) (All-nil (IsMark old.state.me old.state.name))
+      | inr ends ↦ end_marks (Withdraws old client) Withdrawn (λ e. refl) old (withdraws_ended old client) h sends marks new ends
     ]
 
 enters_marked : (me : ℕ) (name : List ℕ) (entered : Bool) (new : Resource) (marks : List Mark) → new.state.me ≡ me → new.state.name ≡ name → IsConsistent new.state → EntersBy entered new marks → All (IsMark me name) marks

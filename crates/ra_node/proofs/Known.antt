@@ -1,19 +1,19 @@
 -- How the known clients of a queue follow what comes and goes.
-use Rattle.std.proofs.Common.{◌≡◌, ◌≢◌, ◌↔◌, ◌<◌, ◌≤◌, ◌+◌, ℕ, suc, Bool, true, false, cond, ◌||◌, List, [], ◌∷◌, ◌++◌, Any, get_or, length, refl, sym, ap, ◌∙◌, subst, arith}
+use Rattle.std.proofs.Common.{◌≡◌, ◌≢◌, ◌↔◌, ◌<◌, ◌≤◌, ◌+◌, ℕ, zero, suc, Bool, true, false, cond, ◌||◌, List, [], ◌∷◌, ◌++◌, Any, get_or, length, refl, sym, ap, ◌∙◌, subst, arith}
 use Rattle.std.specs.Prelude.{nat_eq, IsTrue}
-use Rattle.std.specs.List.{list_any}
+use Rattle.std.specs.List.{list_any, remove}
 use Rattle.std.specs.Map.{lookup, keys_of}
 use Rattle.std.specs.Option.{is_some}
 use Rattle.std.specs.Result.{result_ok}
 use Rattle.std.proofs.Common.{Option, Some, None, Result, Ok, Err, IfOk}
 use Rattle.std.specs.Prelude.{IfSome}
-use Rattle.std.proofs.lemmas.Bool.{eq-eqb, eqb-true, false≢true}
+use Rattle.std.proofs.lemmas.Bool.{eq-eqb, eqb-true}
 use Rattle.std.proofs.lemmas.List.{get_or_default}
 use borrow.Author.Count.{below_more}
 use Rattle.std.proofs.lemmas.List.Folds.{Any-from_list_any, list_any-from_Any}
 use Rattle.ra_node.specs.declared.queued_client.Queued.{Queued}
 use Rattle.ra_node.specs.Queue.{AreApart, AreClients}
-use Rattle.ra_node.proofs.Distinct.{queues_has}
+use Rattle.ra_node.proofs.Distinct.{queues_has, taken_apart}
 
 -- ---- Who is queued, by a test and by a fact
 
@@ -33,12 +33,10 @@ none_more queue place client here lt at apart before =
     below_more (λ k. (x : Queued) → get_or queue k x ≡ x → x.client ≢ client) place before
     (λ x is same. apart (ap (λ q. q.client) (at ∙ get_or_default queue place here x lt ∙ is) ∙ same))
 
-pub among : (queue : List Queued) (place client : ℕ) (here : Queued) → place < length queue → here ≡ get_or queue place here → here.client ≡ client → IsTrue true ↔ Any (λ x. x.client ≡ client) queue
-among queue place client here lt at same = (λ _. (place, here, lt, sym at, same), λ _. refl)
-
-pub not_among : (queue : List Queued) (place client : ℕ) → length queue ≤ place → ((k : ℕ) → k < place → (x : Queued) → get_or queue k x ≡ x → x.client ≢ client)
-    → IsTrue false ↔ Any (λ x. x.client ≡ client) queue
-not_among queue place client end none = (λ yes. absurd (false≢true yes), λ any. absurd (none any.0 (omega (arith, any.2, end)) any.1 any.3 any.4))
+-- and after the last place no client is left
+pub nowhere : (queue : List Queued) (place client : ℕ) → length queue ≤ place → ((k : ℕ) → k < place → (x : Queued) → get_or queue k x ≡ x → x.client ≢ client)
+    → Any (λ x. x.client ≡ client) queue → ⊥
+nowhere queue place client end none any = none any.0 (omega (arith, any.2, end)) any.1 any.3 any.4
 
 -- ---- What a map says of its keys
 
@@ -102,21 +100,36 @@ learned known new before last are more = λ q.
 
 -- ---- One goes
 
-none_left : (gone : Queued) (left : List Queued) → AreApart (gone ∷ left) → (b : Bool) → list_any (λ x. nat_eq gone.client x.client) left ≡ b → b ≡ false
-none_left gone left apart false h = refl
-none_left gone left apart true h =
-    let at = queues_has left gone.client (is_queued left gone.client h) in
-    absurd (apart 0 (suc at.0) gone.client (omega arith) (omega (arith, at.1)) (sym at.2))
+none_left : (before : List Queued) (gone : Queued) (after : List Queued) → AreApart (before ++ gone ∷ after) → (b : Bool) → list_any (λ x. nat_eq gone.client x.client) (before ++ after) ≡ b → b ≡ false
+none_left before gone after apart false h = refl
+none_left before gone after apart true h =
+    absurd (taken_apart before gone after apart (queues_has (before ++ after) gone.client (is_queued (before ++ after) gone.client h)))
+
+without : (q : ℕ) (before : List Queued) (gone : Queued) (after : List Queued)
+    → list_any (λ x. nat_eq q x.client) (before ++ gone ∷ after) ≡ (nat_eq q gone.client || list_any (λ x. nat_eq q x.client) (before ++ after))
+without q [] gone after = refl
+without q (x ∷ xs) gone after =
+    ap (λ b. nat_eq q x.client || b) (without q xs gone after)
+    ∙ or_swap (nat_eq q x.client) (nat_eq q gone.client) (list_any (λ (x : Queued). nat_eq q x.client) (xs ++ after))
 
 neither : (c q : ℕ) (a b : Bool) → a ≡ (nat_eq q c || b) → (c ≡ q → b ≡ false) → cond (nat_eq c q) false a ≡ b
 neither c q a b same none = grind arith
 
-pub unlearned : (known new : List ℕ) (gone : Queued) (left : List Queued) → AreApart (gone ∷ left) → AreClients known (gone ∷ left)
-    → ((q : ℕ) → list_any (nat_eq q) new ≡ cond (nat_eq gone.client q) false (list_any (nat_eq q) known)) → AreClients new left
-unlearned known new gone left apart are updates = λ q.
-    updates q ∙ neither gone.client q (list_any (nat_eq q) known) (list_any (λ (x : Queued). nat_eq q x.client) left) (are q)
-    (λ e. subst (λ (k : ℕ). list_any (λ (x : Queued). nat_eq k x.client) left ≡ false) e
-    (none_left gone left apart (list_any (λ (x : Queued). nat_eq gone.client x.client) left) refl))
+pub unlearned : (known new : List ℕ) (before : List Queued) (gone : Queued) (after : List Queued) → AreApart (before ++ gone ∷ after) → AreClients known (before ++ gone ∷ after)
+    → ((q : ℕ) → list_any (nat_eq q) new ≡ cond (nat_eq gone.client q) false (list_any (nat_eq q) known)) → AreClients new (before ++ after)
+unlearned known new before gone after apart are updates = λ q.
+    updates q ∙ neither gone.client q (list_any (nat_eq q) known) (list_any (λ (x : Queued). nat_eq q x.client) (before ++ after)) (are q ∙ without q before gone after)
+    (λ e. subst (λ (k : ℕ). list_any (λ (x : Queued). nat_eq k x.client) (before ++ after) ≡ false) e
+    (none_left before gone after apart (list_any (λ (x : Queued). nat_eq gone.client x.client) (before ++ after)) refl))
+
+-- the parts of a queue around a place, and what is left without the client there
+pub parts_at : (queue : List Queued) (place : ℕ) (x : Queued) → place < length queue → get_or queue place x ≡ x
+    → (before : List Queued) × (after : List Queued) × (queue ≡ before ++ x ∷ after) × (remove queue place ≡ before ++ after)
+parts_at [] place x lt is = absurd (omega (arith, lt))
+parts_at (q ∷ qs) zero x lt is = ([], qs, ap (λ (y : Queued). y ∷ qs) is, refl)
+parts_at (q ∷ qs) (suc k) x lt is =
+    let rest = parts_at qs k x (omega (arith, lt)) is in
+    (q ∷ rest.0, rest.1, ap (λ (xs : List Queued). q ∷ xs) rest.2, ap (λ (xs : List Queued). q ∷ xs) rest.3)
 
 -- ---- All are learned
 

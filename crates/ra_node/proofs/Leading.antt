@@ -1,5 +1,5 @@
 -- The marks of each turn lead from the use before it to the one after it.
-use Rattle.std.proofs.Common.{◌≡◌, ℕ, ◌+◌, Bool, true, false, List, Option, Some, None, refl, sym, ap, ◌∙◌, subst, inl, inr}
+use Rattle.std.proofs.Common.{◌≡◌, ℕ, ◌+◌, Bool, true, false, List, [], ◌∷◌, Option, Some, None, refl, sym, ap, ◌∙◌, subst, inl, inr}
 use Rattle.std.proofs.lemmas.Bool.{false≢true}
 use Rattle.ra_stamp.specs.declared.entry.Entry.{Entry}
 use Rattle.ra_stamp.specs.declared.entry.Mark.{Mark}
@@ -12,9 +12,11 @@ use Rattle.ra_automaton.specs.State.{State}
 use Rattle.ra_automaton.specs.Steps.{RequestStep, ReceiveStep}
 use Rattle.ra_node.specs.Resource.{Resource, entry_of, Use, use_in, use_of}
 use Rattle.ra_node.specs.Resource.Use.{Nobody, WaitsBy, HoldsBy}
-use Rattle.ra_node.specs.Turns.{request_marks, next_entry, EntersBy, AsksAtOnce, AskTurn, LeaveTurn, ReceiveTurn}
+use Rattle.ra_stamp.specs.declared.entry.Mark.TheVariants.{Left, Withdrawn}
+use Rattle.ra_node.specs.Turns.{request_marks, next_entry, EntersBy, AsksAtOnce, AskTurn, Leaves, Withdraws, EndTurn, LeaveTurn, CancelTurn, ReceiveTurn}
+use Rattle.ra_node.proofs.Endings.{AreEnded, leaves_ended, withdraws_ended}
 use Rattle.ra_node.specs.Carried.{MarksLead}
-use Rattle.ra_node.proofs.Uses.{holder_holds}
+use Rattle.ra_node.proofs.Uses.{holder_holds, waiter_waits}
 
 -- nobody uses a resource of which the node is idle
 idle_is_free : (s : State) (client : Option ℕ) → use_in s Idle client ≡ Nobody
@@ -56,16 +58,33 @@ ask_leads old client mode sends marks new turn =
       | inr queues ↦ subst (λ (ms : List Mark). MarksLead (use_of old) ms (use_of new)) (sym queues.marks_are) (ap use_of queues.new_is)
     ]
 
-pub leave_leads : (old : Resource) (client : ℕ) (sends : List Message) (marks : List Mark) (new : Resource) → LeaveTurn old client sends marks new → MarksLead (use_of old) marks (use_of new)
-leave_leads old client sends marks new turn =
+-- the end of a request leads from its use, by its mark
+end_leads : (Ends : Entry → List Message → Resource → Type 0) (mark : Entry → Mark) (was : Entry → Use) (old : Resource) → AreEnded old Ends
+    → ((entry : Entry) (sends : List Message) (new : Resource) → Ends entry sends new → use_of old ≡ was entry)
+    → ((entry : Entry) (marks : List Mark) (after : Use) → use_of old ≡ was entry → MarksLead Nobody marks after → MarksLead (use_of old) (mark entry ∷ marks) after)
+    → (sends : List Message) (marks : List Mark) (new : Resource) → EndTurn Ends mark old sends marks new → MarksLead (use_of old) marks (use_of new)
+end_leads Ends mark was old ended used first sends marks new turn =
     elim turn [
       | inl nobody ↦
-          let leaves = nobody.leaves in
           subst (λ (ms : List Mark). MarksLead (use_of old) ms (use_of new)) (sym nobody.marks_are)
-          (holder_holds old nobody.entry leaves.holds.granted, free_when_idle new.state new.client (ap (λ (s : State). s.phase) leaves.step.new_is))
+          (first nobody.entry [] (use_of new) (used nobody.entry sends new nobody.ends) (free_when_idle new.state new.client (ended nobody.entry sends new nobody.ends).step.idle))
       | inr hands ↦
           subst (λ (ms : List Mark). MarksLead (use_of old) ms (use_of new)) (sym hands.marks_are)
-          (holder_holds old hands.entry hands.leaves.holds.granted, asking_leads (record hands.between { queue = hands.rest }) hands.next.client hands.next.mode hands.requests hands.asked new hands.asks)
+          (first hands.entry hands.asked (use_of new) (used hands.entry hands.replies hands.between hands.ends)
+          (asking_leads (record hands.between { queue = hands.rest }) hands.next.client hands.next.mode hands.requests hands.asked new hands.asks))
+    ]
+
+pub leave_leads : (old : Resource) (client : ℕ) (sends : List Message) (marks : List Mark) (new : Resource) → LeaveTurn old client sends marks new → MarksLead (use_of old) marks (use_of new)
+leave_leads old client sends marks new turn =
+    end_leads (Leaves old client) Left HoldsBy old (leaves_ended old client) (λ entry sends new leaves. holder_holds old entry leaves.holds.granted) (λ entry marks after held rest. (held, rest)) sends marks new turn
+
+pub cancel_leads : (old : Resource) (client : ℕ) (sends : List Message) (marks : List Mark) (new : Resource) → CancelTurn old client sends marks new → MarksLead (use_of old) marks (use_of new)
+cancel_leads old client sends marks new turn =
+    elim turn [
+      | inl goes ↦ subst (λ (ms : List Mark). MarksLead (use_of old) ms (use_of new)) (sym goes.marks_are) (ap use_of goes.new_is)
+      | inr ends ↦
+          end_leads (Withdraws old client) Withdrawn WaitsBy old (withdraws_ended old client) (λ entry sends new withdraws. waiter_waits old entry withdraws.waits.requested)
+          (λ entry marks after waits rest. (waits, rest)) sends marks new ends
     ]
 
 same_in : (s t : State) (phase : Phase) (client : Option ℕ) → s.me ≡ t.me → s.name ≡ t.name → use_in s phase client ≡ use_in t phase client

@@ -1,4 +1,5 @@
--- A leave and a request in one step of the automaton are a leave that hands over to the next client, and how a leave ends.
+-- The end of a request and another request in one step of the automaton are an end that hands over to the next client; and how a
+-- leave ends.
 use Rattle.std.proofs.Common.{◌≡◌, ℕ, Bool, List, [], ◌∷◌, ◌++◌, ◌⊎◌, ◌≤◌, length, take, get_or, Option, Some, None, Result, Ok, Err, MatchResult, ◌↔◌, MatchOption, ◌+◌, refl, sym, ap, ◌∙◌, subst, arith, inl, inr}
 use Rattle.std.specs.Prelude.{IsOk, IsErrOf}
 use Rattle.std.proofs.lemmas.Bool.{false≢true}
@@ -10,7 +11,8 @@ use Rattle.ra_automaton.specs.declared.error.LeaveError.{LeaveError as Fault}
 use Rattle.ra_automaton.specs.declared.error.LeaveError.TheVariants as fault
 use Rattle.ra_automaton.specs.declared.phase.Phase.{Phase}
 use Rattle.ra_automaton.specs.State.{State, IsConsistent, IsInside}
-use Rattle.ra_automaton.specs.Steps.{LeaveStep, LeaveAndRequestStep, greatest_number}
+use Rattle.ra_automaton.specs.Steps.{LeaveStep, EndAndRequestStep, greatest_number}
+use Rattle.ra_automaton.proofs.Ending.{EndStep, leave_ends}
 use Rattle.ra_node.specs.declared.queued_client.Queued.{Queued}
 use Rattle.ra_node.specs.declared.error.LeaveError.{LeaveError}
 use Rattle.ra_node.specs.declared.error.LeaveError.TheVariants.{NotHeld, Memory}
@@ -19,42 +21,71 @@ use Rattle.ra_node.specs.Faults.{IsLeaveRefusal}
 use Rattle.ra_node.specs.Room.{answer_with}
 use Rattle.ra_node.specs.HandedOver.{IsHandedOver}
 use Rattle.ra_node.specs.Resource.{Resource, Holds, entry_of, clients_of}
-use Rattle.ra_node.specs.Turns.{request_marks, next_entry, LeaveTurn, LeavesToNext}
+use Rattle.ra_node.specs.Turns.{request_marks, next_entry, Leaves, EndTurn, EndsToNext, LeaveTurn}
 use Rattle.ra_node.proofs.Distinct.{Once, next_may_ask}
 use Rattle.ra_node.proofs.Uses.{granted_inside}
 
-pub hands_over : (old : Resource) (client : ℕ) (entry : Entry) (next : Queued) (sends : List Message) (marks : List Mark) (entered : Bool) (new : Resource) → Once (clients_of old) → Holds old client entry → old.queue ≡ next ∷ new.queue
-    → LeaveAndRequestStep old.state next.mode sends entered new.state → new.client ≡ Some next.client → marks ≡ Left entry ∷ request_marks entered (next_entry old next.client next.mode) → LeavesToNext old client sends marks new
-hands_over old client entry next sends marks entered new once holds queue-was step client-is marks-are =
-    let between : Resource = record { state = step.between; client = None; queue = old.queue } in
-    let asked = request_marks entered (next_entry between next.client next.mode) in
-    let same : next_entry old next.client next.mode ≡ next_entry between next.client next.mode =
-    sym (ap (λ (s : State). entry_of s.me s.name (s.highest + 1) next.client next.mode) step.leaves.new_is)
-    in
-    record {
-      entry = entry;
-      between = between;
-      replies = step.replies;
-      leaves = record { holds = holds; step = step.leaves; client_is = refl; queue_is = refl };
-      next = next;
-      rest = new.queue;
-      queue_was = queue-was;
-      requests = step.requests;
-      asked = asked;
-      may = next_may_ask old between next new.queue queue-was refl step.asks.number_left once;
-      asks = record { entered = entered; step = step.asks; marks_are = refl; client_is = client-is; queue_is = refl };
-      sends_are = step.sends_are;
-      marks_are = marks-are ∙ ap (λ (e : Entry). Left entry ∷ request_marks entered e) same;
-    }
+-- a request of this entry ends in this way if the automaton's does in that way
+pub record EndsBy (Ends : Entry → List Message → Resource → Type 0) (Step : State → List Message → State → Type 0) (old : Resource) (entry : Entry) : Type 0 where
+  pub ends : (sends : List Message) (s : State) (queue : List Queued) → Step old.state sends s → queue ≡ old.queue → Ends entry sends (record { state = s; client = None; queue = queue })
+  pub step : (sends : List Message) (s : State) → Step old.state sends s → EndStep old.state sends s
+
+module _ (Ends : Entry → List Message → Resource → Type 0) (mark : Entry → Mark) (Step : State → List Message → State → Type 0) (old : Resource) (entry : Entry) (by : EndsBy Ends Step old entry) where
+  pub hands_over : (next : Queued) (sends : List Message) (marks : List Mark) (entered : Bool) (new : Resource) → Once (clients_of old) → old.queue ≡ next ∷ new.queue
+      → EndAndRequestStep (Step old.state) next.mode sends entered new.state → new.client ≡ Some next.client → marks ≡ mark entry ∷ request_marks entered (next_entry old next.client next.mode) → EndsToNext Ends mark old sends marks new
+  hands_over next sends marks entered new once queue-was step client-is marks-are =
+      let between : Resource = record { state = step.between; client = None; queue = old.queue } in
+      let asked = request_marks entered (next_entry between next.client next.mode) in
+      let end = by.step step.replies step.between step.ends in
+      let same : next_entry old next.client next.mode ≡ next_entry between next.client next.mode =
+      sym (λ i. entry_of (end.me_is i) (end.name_is i) (end.highest_is i + 1) next.client next.mode)
+      in
+      record {
+        entry = entry;
+        between = between;
+        replies = step.replies;
+        ends = by.ends step.replies step.between old.queue step.ends refl;
+        next = next;
+        rest = new.queue;
+        queue_was = queue-was;
+        requests = step.requests;
+        asked = asked;
+        may = next_may_ask old between next new.queue queue-was refl step.asks.number_left once;
+        asks = record { entered = entered; step = step.asks; marks_are = refl; client_is = client-is; queue_is = refl };
+        sends_are = step.sends_are;
+        marks_are = marks-are ∙ ap (λ (e : Entry). mark entry ∷ request_marks entered e) same;
+      }
+
+  -- what the automaton did if nobody asks next, at a slot with these parts
+  pub ended_to_nobody : (state state' : State) (at : Option ℕ) (queue : List Queued) (sends : List Message) (marks : List Mark) → record { state = state; client = at; queue = queue } ≡ old → Step state sends state'
+      → (old.queue ≡ []) ⊎ (greatest_number ≤ old.state.highest) → marks ≡ mark entry ∷ [] → EndTurn Ends mark old sends marks (record { state = state'; client = None; queue = queue })
+  ended_to_nobody state state' at queue sends marks is step nobody marks-are =
+      inl (record {
+        entry = entry;
+        ends = by.ends sends state' queue (subst (λ (r : Resource). Step r.state sends state') is step) (ap (λ (r : Resource). r.queue) is);
+        nobody = nobody;
+        marks_are = marks-are;
+      })
+
+  -- what the call did by which the next client asks
+  pub ended_to_next : {E : Type 0} (result : Result Outcome E) (new : Resource) (next : Queued) (before : List Mark) (Refused Refused' : E → Type 0) → Once (clients_of old) → before ≡ mark entry ∷ [] → ((fault : E) → Refused fault → Refused' fault)
+      → MatchResult result (λ o. IsHandedOver (Step old.state) old next o.sends.items before o.marks.items new × IsConsistent new.state) (λ fault. Refused fault × (new ≡ old))
+      → MatchResult result (λ o. EndTurn Ends mark old o.sends.items o.marks.items new × IsConsistent new.state) (λ fault. Refused' fault × (new ≡ old))
+  ended_to_next (Ok o) new next before Refused Refused' once is refuses ended =
+      let handed = ended.0 in
+      let marks = handed.marks_are ∙ ap (λ (ms : List Mark). ms ++ request_marks handed.entered (next_entry old next.client next.mode)) is in
+      (inr (hands_over next o.sends.items o.marks.items handed.entered new once handed.queue_was handed.step handed.client_is marks), ended.1)
+  ended_to_next (Err fault) new next before Refused Refused' once is refuses ended = (refuses fault ended.0, ended.1)
 
 -- what the automaton did and what was taken out of the queue, at a slot with these parts
-pub parts_handed_over : (state state' : State) (client : Option ℕ) (queue queue' : List Queued) (old : Resource) (next : Queued) (taken : Option Queued) (sends : List Message) (before marks : List Mark) (entered : Bool) → record { state = state; client = client; queue = queue } ≡ old
-    → LeaveAndRequestStep state next.mode sends entered state' → take 1 old.queue ≡ next ∷ [] → MatchOption taken ((queue ≡ []) × (queue' ≡ [])) (λ first. queue ≡ first ∷ queue') → marks ≡ before ++ request_marks entered (next_entry old next.client next.mode)
-    → IsHandedOver old next sends before marks (record { state = state'; client = Some next.client; queue = queue' })
-parts_handed_over state state' client queue queue' old next taken sends before marks entered is step first was marks-are =
+pub parts_handed_over : (Step : State → List Message → State → Type 0) (state state' : State) (client : Option ℕ) (queue queue' : List Queued) (old : Resource) (next : Queued) (taken : Option Queued) (sends : List Message) (before marks : List Mark) (entered : Bool)
+    → record { state = state; client = client; queue = queue } ≡ old
+    → EndAndRequestStep (Step state) next.mode sends entered state' → take 1 old.queue ≡ next ∷ [] → MatchOption taken ((queue ≡ []) × (queue' ≡ [])) (λ first. queue ≡ first ∷ queue') → marks ≡ before ++ request_marks entered (next_entry old next.client next.mode)
+    → IsHandedOver (Step old.state) old next sends before marks (record { state = state'; client = Some next.client; queue = queue' })
+parts_handed_over Step state state' client queue queue' old next taken sends before marks entered is step first was marks-are =
     record {
       entered = entered;
-      step = subst (λ (r : Resource). LeaveAndRequestStep r.state next.mode sends entered state') is step;
+      step = subst (λ (r : Resource). EndAndRequestStep (Step r.state) next.mode sends entered state') is step;
       marks_are = marks-are;
       client_is = refl;
       queue_was = sym (ap (λ (r : Resource). r.queue) is) ∙ behind taken (ap (λ (r : Resource). take 1 r.queue) is ∙ first) was;
@@ -96,23 +127,16 @@ module _ (old : Resource) (client : ℕ) (held : Entry) (holds : Holds old clien
       let (seq, mode, is) = granted_inside old.state old.state.phase old.client held holds.granted in
       subst IsInside (sym is) tt
 
-  -- what the automaton did if nobody asks next, at a slot with these parts
+  left_by : EndsBy (Leaves old client) LeaveStep old held
+  left_by = record { ends = λ sends s queue step same. record { holds = holds; step = step; client_is = refl; queue_is = same }; step = leave_ends old.state }
+
   pub left_to_nobody : (state state' : State) (at : Option ℕ) (queue : List Queued) (sends : List Message) (marks : List Mark) → record { state = state; client = at; queue = queue } ≡ old → LeaveStep state sends state'
       → (old.queue ≡ []) ⊎ (greatest_number ≤ old.state.highest) → marks ≡ Left held ∷ [] → LeaveTurn old client sends marks (record { state = state'; client = None; queue = queue })
-  left_to_nobody state state' at queue sends marks is step nobody marks-are =
-      inl (record {
-        entry = held;
-        leaves = record { holds = holds; step = subst (λ (r : Resource). LeaveStep r.state sends state') is step; client_is = refl; queue_is = ap (λ (r : Resource). r.queue) is };
-        nobody = nobody;
-        marks_are = marks-are;
-      })
+  left_to_nobody = ended_to_nobody (Leaves old client) Left LeaveStep old held left_by
 
-  -- what the call did by which the next client asks
   pub left_to_next : (result : Result Outcome LeaveError) (new : Resource) (next : Queued) (before : List Mark) → Once (clients_of old) → before ≡ Left held ∷ []
-      → MatchResult result (λ o. IsHandedOver old next o.sends.items before o.marks.items new × IsConsistent new.state) (λ fault. (fault ≡ Memory) × (new ≡ old))
+      → MatchResult result (λ o. IsHandedOver (LeaveStep old.state) old next o.sends.items before o.marks.items new × IsConsistent new.state) (λ fault. (fault ≡ Memory) × (new ≡ old))
       → MatchResult result (λ o. LeaveTurn old client o.sends.items o.marks.items new × IsConsistent new.state) (λ fault. IsLeaveRefusal old client fault × (new ≡ old))
-  left_to_next (Ok o) new next before once is ended =
-      let handed = ended.0 in
-      let marks = handed.marks_are ∙ ap (λ (ms : List Mark). ms ++ request_marks handed.entered (next_entry old next.client next.mode)) is in
-      (inr (hands_over old client held next o.sends.items o.marks.items handed.entered new once holds handed.queue_was handed.step handed.client_is marks), ended.1)
-  left_to_next (Err fault) new next before once is ended = (subst (λ (f : LeaveError). IsLeaveRefusal old client f) (sym ended.0) (held, holds), ended.1)
+  left_to_next result new next before once is =
+      ended_to_next (Leaves old client) Left LeaveStep old held left_by result new next before (λ fault. fault ≡ Memory) (IsLeaveRefusal old client) once is
+      (λ fault memory. subst (λ (f : LeaveError). IsLeaveRefusal old client f) (sym memory) (held, holds))

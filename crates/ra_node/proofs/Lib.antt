@@ -6,7 +6,9 @@ pub mod Opening
 pub mod Sends
 pub mod Distinct
 pub mod Known
+pub mod Endings
 pub mod LeaveEndings
+pub mod CancelEndings
 pub mod Kept
 pub mod Leading
 pub mod Room
@@ -16,6 +18,8 @@ pub mod EventLemmas
 pub mod EventsKept
 pub mod After
 mod Totals
+pub mod Forgetting
+mod Forgot
 pub mod Counts
 mod Refusals
 pub mod Determined

@@ -1,12 +1,13 @@
 -- Which events there are.
-use Rattle.std.proofs.Common.{◌≡◌, ◌≢◌, ℕ, ◌+◌, ◌<◌, ◌≤◌, ◌⊎◌, Bool, true, false, List, [], ◌∷◌, ◌++◌, map, Option, Some, None, IsSome, refl, sym, ap, ◌∙◌, subst, arith, inl, inr}
+use Rattle.std.proofs.Common.{◌≡◌, ◌≢◌, ℕ, zero, suc, ◌+◌, ◌<◌, ◌≤◌, ◌⊎◌, Bool, true, false, List, [], ◌∷◌, ◌++◌, Any, map, Option, Some, None, IsSome, refl, sym, ap, ◌∙◌, subst, arith, inl, inr}
 use Rattle.std.specs.Ordering.{nat_cmp}
 use Rattle.std.specs.FinSet as set
 use Rattle.std.specs.FinMap as finmap
 use Rattle.std.proofs.lemmas.Bool.{cases_eq, cases_lt, false≢true}
+use Rattle.std.proofs.lemmas.Option.{none-some}
 use Rattle.ra_stamp.specs.declared.entry.Entry.{Entry}
 use Rattle.ra_stamp.specs.declared.entry.Mark.{Mark}
-use Rattle.ra_stamp.specs.declared.entry.Mark.TheVariants.{Entered, Left}
+use Rattle.ra_stamp.specs.declared.entry.Mark.TheVariants.{Entered, Left, Withdrawn}
 use Rattle.ra_stamp.specs.declared.message.Message.{Message}
 use Rattle.ra_stamp.specs.declared.message.Message.TheVariants.{Request, Reply}
 use Rattle.ra_stamp.specs.declared.mode.Mode.{Mode}
@@ -16,15 +17,15 @@ use Rattle.ra_stamp.specs.Stamp.{IsEarlier}
 use Rattle.ra_automaton.specs.declared.phase.Phase.{Phase}
 use Rattle.ra_automaton.specs.declared.phase.Phase.TheVariants.{Idle, Waiting, Inside}
 use Rattle.ra_automaton.specs.State.{State}
-use Rattle.ra_automaton.specs.Steps.{greatest_number, others_of, GoesFirst, OwnGoesFirst, RequestStep, Awaits, TakesReply, ReceiveStep, LeaveStep}
+use Rattle.ra_automaton.specs.Steps.{greatest_number, others_of, GoesFirst, OwnGoesFirst, RequestStep, Awaits, TakesReply, ReceiveStep, LeaveStep, WithdrawStep}
 use Rattle.ra_node.specs.declared.queued_client.Queued.{Queued}
-use Rattle.ra_node.specs.Resource.{Resource, use_in, held_entry, holder_of, Holds, ClientFits, clients_of}
-use Rattle.ra_node.specs.Turns.{request_marks, next_entry, MayAsk, EntersBy, AsksAtOnce, AskTurn, Leaves, LeaveTurn}
+use Rattle.ra_node.specs.Resource.{Resource, use_in, held_entry, holder_of, waiter_of, Holds, Waits, IsKeptWaiting, ClientFits, clients_of}
+use Rattle.ra_node.specs.Turns.{request_marks, next_entry, MayAsk, EntersBy, AsksAtOnce, AskTurn, Leaves, Withdraws, EndTurn, LeaveTurn, CancelTurn}
 use Rattle.ra_node.specs.Node.{NodeState, resource_at, with_resource, IsConsistentNode}
 use Rattle.ra_node.specs.Events.{AllowsEvent}
-use Rattle.ra_node.specs.Events.Event.{Ask, Leave, Receive}
+use Rattle.ra_node.specs.Events.Event.{Ask, Leave, Cancel, Receive}
 use Rattle.ra_node.proofs.Updates.{event_by_turn}
-use Rattle.ra_node.proofs.Uses.{granted_inside}
+use Rattle.ra_node.proofs.Uses.{some_is, granted_inside, requested_waits}
 use Rattle.ra_node.proofs.Distinct.{Once, next_may_ask}
 
 -- ---- Asking
@@ -95,51 +96,61 @@ possible_leaves old client e holds =
     let inside = granted_inside old.state old.state.phase old.client e holds.granted in
     record { holds = holds; step = possible_leave old.state inside.0 inside.1 inside.2; client_is = refl; queue_is = refl }
 
-leave_to_nobody : (old : Resource) (client : ℕ) (e : Entry) → Holds old client e → (old.queue ≡ []) ⊎ (greatest_number ≤ old.state.highest) → (sends : List Message) × (marks : List Mark) × (new : Resource) × LeaveTurn old client sends marks new
-leave_to_nobody old client e holds nobody =
-    (replies_of old.state, Left e ∷ [], left_resource old, inl (record { entry = e; leaves = possible_leaves old client e holds; nobody = nobody; marks_are = refl }))
-
-leave_to_next : (old : Resource) (client : ℕ) (e : Entry) (next : Queued) (rest : List Queued) → 1 ≤ old.state.nodes → Holds old client e → old.queue ≡ next ∷ rest → old.state.highest < greatest_number → Once (clients_of old)
-    → (sends : List Message) × (marks : List Mark) × (new : Resource) × LeaveTurn old client sends marks new
-leave_to_next old client e next rest low holds queue left once =
-    let request = possible_request (left_state old.state) next.mode low refl left in
-    let requests = requests_of (left_state old.state) next.mode in
-    let asked = request_marks request.0 (next_entry old next.client next.mode) in
-    let new : Resource = record { state = request.1; client = Some next.client; queue = rest } in
-    let asks : AsksAtOnce (record (left_resource old) { queue = rest }) next.client next.mode requests asked new = record { entered = request.0; step = request.2; marks_are = refl; client_is = refl; queue_is = refl } in (
-      replies_of old.state ++ requests,
-      Left e ∷ asked,
-      new,
-      inr (record {
-        entry = e;
-        between = left_resource old;
-        replies = replies_of old.state;
-        leaves = possible_leaves old client e holds;
-        next = next;
-        rest = rest;
-        queue_was = queue;
-        requests = requests;
-        asked = asked;
-        may = next_may_ask old (left_resource old) next rest queue refl left once;
-        asks = asks;
-        sends_are = refl;
-        marks_are = refl;
-      }),
-    )
-
 empty_or_not : (queue : List Queued) → (queue ≡ []) ⊎ ((next : Queued) × (rest : List Queued) × (queue ≡ next ∷ rest))
 empty_or_not [] = inl refl
 empty_or_not (q ∷ qs) = inr (q, qs, refl)
 
-possible_leave_turn : (old : Resource) (client : ℕ) (e : Entry) → 1 ≤ old.state.nodes → Once (clients_of old) → Holds old client e → (sends : List Message) × (marks : List Mark) × (new : Resource) × LeaveTurn old client sends marks new
-possible_leave_turn old client e low once holds =
-    elim (empty_or_not old.queue) [
-      | inl none ↦ leave_to_nobody old client e holds (inl none)
-      | inr some ↦ elim (cases_lt old.state.highest greatest_number) [
-        | inl left ↦ leave_to_next old client e some.0 some.1 low holds some.2 left once
-        | inr last ↦ leave_to_nobody old client e holds (inr last)
+-- a request that ends in a way that is possible, with what the automaton is afterwards
+module _ (Ends : Entry → List Message → Resource → Type 0) (mark : Entry → Mark) (old : Resource) (entry : Entry) (mid : State) (mid_idle : mid.phase ≡ Idle) (mid_nodes : mid.nodes ≡ old.state.nodes) (mid_highest : mid.highest ≡ old.state.highest)
+    (ends : Ends entry (replies_of old.state) (record { state = mid; client = None; queue = old.queue })) where
+  abbrev Ended : Type 0
+  Ended = (sends : List Message) × (marks : List Mark) × (new : Resource) × EndTurn Ends mark old sends marks new
+
+  abbrev ended : Resource
+  ended = record { state = mid; client = None; queue = old.queue }
+
+  end_to_nobody : (old.queue ≡ []) ⊎ (greatest_number ≤ old.state.highest) → Ended
+  end_to_nobody nobody = (replies_of old.state, mark entry ∷ [], ended, inl (record { entry = entry; ends = ends; nobody = nobody; marks_are = refl }))
+
+  end_to_next : (next : Queued) (rest : List Queued) → 1 ≤ old.state.nodes → old.queue ≡ next ∷ rest → old.state.highest < greatest_number → Once (clients_of old) → Ended
+  end_to_next next rest low queue left once =
+      let request = possible_request mid next.mode (omega (arith, low, mid_nodes)) mid_idle (omega (arith, left, mid_highest)) in
+      let requests = requests_of mid next.mode in
+      let asked = request_marks request.0 (next_entry ended next.client next.mode) in
+      let new : Resource = record { state = request.1; client = Some next.client; queue = rest } in
+      let asks : AsksAtOnce (record ended { queue = rest }) next.client next.mode requests asked new = record { entered = request.0; step = request.2; marks_are = refl; client_is = refl; queue_is = refl } in (
+        replies_of old.state ++ requests,
+        mark entry ∷ asked,
+        new,
+        inr (record {
+          entry = entry;
+          between = ended;
+          replies = replies_of old.state;
+          ends = ends;
+          next = next;
+          rest = rest;
+          queue_was = queue;
+          requests = requests;
+          asked = asked;
+          may = next_may_ask old ended next rest queue refl (omega (arith, left, mid_highest)) once;
+          asks = asks;
+          sends_are = refl;
+          marks_are = refl;
+        }),
+      )
+
+  possible_end : 1 ≤ old.state.nodes → Once (clients_of old) → Ended
+  possible_end low once =
+      elim (empty_or_not old.queue) [
+        | inl none ↦ end_to_nobody (inl none)
+        | inr some ↦ elim (cases_lt old.state.highest greatest_number) [
+          | inl left ↦ end_to_next some.0 some.1 low some.2 left once
+          | inr last ↦ end_to_nobody (inr last)
+        ]
       ]
-    ]
+
+possible_leave_turn : (old : Resource) (client : ℕ) (e : Entry) → 1 ≤ old.state.nodes → Once (clients_of old) → Holds old client e → (sends : List Message) × (marks : List Mark) × (new : Resource) × LeaveTurn old client sends marks new
+possible_leave_turn old client e low once holds = possible_end (Leaves old client) Left old e (left_state old.state) refl refl refl (possible_leaves old client e holds) low once
 
 pub leave_is_possible : (old : NodeState) (client : ℕ) (name : List ℕ) → IsConsistentNode old → (entry : Entry) × Holds (resource_at old name) client entry → AllowsEvent old (Leave client name)
 leave_is_possible old client name h held =
@@ -149,9 +160,118 @@ leave_is_possible old client name h held =
 pub leave_was_allowed : (old : NodeState) (client : ℕ) (name : List ℕ) → AllowsEvent old (Leave client name) → (entry : Entry) × Holds (resource_at old name) client entry
 leave_was_allowed old client name event =
     elim event.3.turn [
-      | inl x ↦ (x.entry, x.leaves.holds)
-      | inr x ↦ (x.entry, x.leaves.holds)
+      | inl x ↦ (x.entry, x.ends.holds)
+      | inr x ↦ (x.entry, x.ends.holds)
     ]
+
+-- ---- Giving up
+
+abbrev withdrawn_state : State → State
+withdrawn_state s = record s { phase = Idle; awaited = set.empty; deferred = finmap.empty }
+
+possible_withdraw : (s : State) (seq : ℕ) (mode : Mode) → s.phase ≡ Waiting seq mode → WithdrawStep s (replies_of s) (withdrawn_state s)
+unfolding replies_of
+possible_withdraw s seq mode waits = record { seq = seq; mode = mode; waits = waits; sends_are = refl; new_is = refl }
+
+possible_withdraws : (old : Resource) (client : ℕ) (e : Entry) → Waits old client e → Withdraws old client e (replies_of old.state) (record { state = withdrawn_state old.state; client = None; queue = old.queue })
+possible_withdraws old client e waits =
+    let phase = requested_waits old.state old.state.phase old.client e waits.requested in
+    record { waits = waits; step = possible_withdraw old.state phase.0 phase.1 phase.2; client_is = refl; queue_is = refl }
+
+-- whether a client waits
+waits_or_not : (r : Resource) (client : ℕ) → ((e : Entry) × Waits r client e) ⊎ ((e : Entry) → Waits r client e → ⊥)
+waits_or_not r client = of_waiter (waiter_of r) refl
+  where
+    of_waiter : (o : Option Entry) → waiter_of r ≡ o → ((e : Entry) × Waits r client e) ⊎ ((e : Entry) → Waits r client e → ⊥)
+    of_waiter None none = inr (λ e waits. none-some e (sym none ∙ waits.requested))
+    of_waiter (Some x) is = elim (cases_eq x.client client) [
+      | inl same ↦ inl (x, record { requested = is; client_is = same })
+      | inr apart ↦ inr (λ e waits. apart (ap (λ (y : Entry). y.client) (some_is x e (sym is ∙ waits.requested)) ∙ waits.client_is))
+    ]
+
+-- the first place of a client in a queue
+record FirstPlace (queue : List Queued) (client : ℕ) : Type 0 where
+  before : List Queued
+  gone : Queued
+  after : List Queued
+  client_is : gone.client ≡ client
+  queue_was : queue ≡ before ++ gone ∷ after
+  not_before : Any (λ q. q.client ≡ client) before → ⊥
+
+first_place : (queue : List Queued) (client : ℕ) → Any (λ q. q.client ≡ client) queue → FirstPlace queue client
+first_place [] client any = absurd (omega (arith, any.2))
+first_place (q ∷ qs) client any = elim (cases_eq q.client client) [
+  | inl same ↦ record { before = []; gone = q; after = qs; client_is = same; queue_was = refl; not_before = λ none. omega (arith, none.2) }
+  | inr apart ↦
+      let rest = first_place qs client (later q qs any apart) in
+      record {
+        before = q ∷ rest.before;
+        gone = rest.gone;
+        after = rest.after;
+        client_is = rest.client_is;
+        queue_was = ap (λ (xs : List Queued). q ∷ xs) rest.queue_was;
+        not_before = λ one. rest.not_before (later q rest.before one apart);
+      }
+]
+  where
+    later : (q : Queued) (qs : List Queued) → Any (λ x. x.client ≡ client) (q ∷ qs) → q.client ≢ client → Any (λ x. x.client ≡ client) qs
+    later q qs (zero, x, lt, is, here) apart = absurd (apart (ap (λ (y : Queued). y.client) is ∙ here))
+    later q qs (suc k, x, lt, is, here) apart = (k, x, omega (arith, lt), is, here)
+
+possible_cancel_turn : (old : Resource) (client : ℕ) → 1 ≤ old.state.nodes → Once (clients_of old) → IsKeptWaiting old client → (sends : List Message) × (marks : List Mark) × (new : Resource) × CancelTurn old client sends marks new
+possible_cancel_turn old client low once kept =
+    elim (waits_or_not old client) [
+      | inl waits ↦
+          let end = possible_end (Withdraws old client) Withdrawn old waits.0 (withdrawn_state old.state) refl refl refl (possible_withdraws old client waits.0 waits.1) low once in
+          (end.0, end.1, end.2, inr end.3)
+      | inr not ↦ elim kept [
+        | inl waits ↦ absurd (not waits.0 waits.1)
+        | inr queued ↦
+            let place = first_place old.queue client queued in (
+              [],
+              [],
+              record old { queue = place.before ++ place.after },
+              inl (record {
+                before = place.before;
+                gone = place.gone;
+                after = place.after;
+                client_is = place.client_is;
+                queue_was = place.queue_was;
+                not_before = place.not_before;
+                waits_not = not;
+                sends_are = refl;
+                marks_are = refl;
+                new_is = refl;
+              }),
+            )
+      ]
+    ]
+
+pub cancel_is_possible : (old : NodeState) (client : ℕ) (name : List ℕ) → IsConsistentNode old → IsKeptWaiting (resource_at old name) client → AllowsEvent old (Cancel client name)
+cancel_is_possible old client name h kept =
+    let turn = possible_cancel_turn (resource_at old name) client (h.each name).state.count.0 (h.each name).once kept in
+    (turn.0, turn.1, with_resource old name turn.2, record { resource = turn.2; turn = turn.3; new_is = refl })
+
+-- a client that is in a queue is queued
+in_queue : (queue before after : List Queued) (gone : Queued) (client : ℕ) → gone.client ≡ client → queue ≡ before ++ gone ∷ after → Any (λ q. q.client ≡ client) queue
+in_queue queue before after gone client is was = subst (λ (qs : List Queued). Any (λ q. q.client ≡ client) qs) (sym was) (at_place before)
+  where
+    at_place : (before : List Queued) → Any (λ q. q.client ≡ client) (before ++ gone ∷ after)
+    at_place [] = (0, gone, omega arith, refl, is)
+    at_place (x ∷ xs) = let rest = at_place xs in (suc rest.0, rest.1, omega (arith, rest.2), rest.3, rest.4)
+
+pub kept_waiting_before : (old : Resource) (client : ℕ) (sends : List Message) (marks : List Mark) (new : Resource) → CancelTurn old client sends marks new → IsKeptWaiting old client
+kept_waiting_before old client sends marks new turn =
+    elim turn [
+      | inl goes ↦ inr (in_queue old.queue goes.before goes.after goes.gone client goes.client_is goes.queue_was)
+      | inr ends ↦ elim ends [
+        | inl x ↦ inl (x.entry, x.ends.waits)
+        | inr x ↦ inl (x.entry, x.ends.waits)
+      ]
+    ]
+
+pub cancel_was_allowed : (old : NodeState) (client : ℕ) (name : List ℕ) → AllowsEvent old (Cancel client name) → IsKeptWaiting (resource_at old name) client
+cancel_was_allowed old client name event = kept_waiting_before (resource_at old name) client event.0 event.1 event.3.resource event.3.turn
 
 -- ---- Receiving
 

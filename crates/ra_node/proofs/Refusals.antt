@@ -13,12 +13,15 @@ use Rattle.ra_node.specs.declared.error.AskError.TheVariants as asking
 use Rattle.ra_node.specs.declared.error.LeaveError.{LeaveError}
 use Rattle.ra_node.specs.declared.error.LeaveError.TheVariants as leaving
 use Rattle.ra_node.specs.declared.outcome.Outcome.{Outcome}
-use Rattle.ra_node.specs.Faults.{IsAskRefusal, IsLeaveRefusal}
-use Rattle.ra_node.specs.Resource.{Resource, unmet, IsBusy, Holds}
-use Rattle.ra_node.specs.Turns.{MayAsk, AskTurn, LeaveTurn}
+use Rattle.ra_node.specs.declared.error.CancelError.{CancelError}
+use Rattle.ra_node.specs.declared.error.CancelError.TheVariants as cancelling
+use Rattle.ra_node.specs.Faults.{IsAskRefusal, IsLeaveRefusal, IsCancelRefusal}
+use Rattle.ra_node.specs.Resource.{Resource, unmet, IsBusy, Holds, IsKeptWaiting}
+use Rattle.ra_node.specs.Turns.{MayAsk, AskTurn, LeaveTurn, CancelTurn}
 use Rattle.ra_node.specs.Node.{NodeState, resource_at}
 use Rattle.ra_node.specs.Events.{AskEvent}
 use Rattle.ra_node.specs.Calls.{AnswersMayAsk}
+use Rattle.ra_node.proofs.Possible.{kept_waiting_before}
 
 -- ---- A client asks
 
@@ -155,8 +158,8 @@ not_held_apart e = cc
 
 -- a client that leaves held
 holds_before : (old : Resource) (client : ℕ) (sends : List Message) (marks : List Mark) (new : Resource) → LeaveTurn old client sends marks new → (entry : Entry) × Holds old client entry
-holds_before old client sends marks new (inl to_nobody) = (to_nobody.entry, to_nobody.leaves.holds)
-holds_before old client sends marks new (inr to_next) = (to_next.entry, to_next.leaves.holds)
+holds_before old client sends marks new (inl to_nobody) = (to_nobody.entry, to_nobody.ends.holds)
+holds_before old client sends marks new (inr to_next) = (to_next.entry, to_next.ends.holds)
 
 -- a client leaves if it holds and memory does not run out
 pub left_tells : (result : Result Outcome LeaveError) (old : Resource) (client : ℕ) (new : Resource) (Same : Type 0)
@@ -175,5 +178,35 @@ left_tells (Err leaving.NotHeld) r client new Same ended =
 left_tells (Err leaving.Memory) r client new Same ended =
     record {
       not_held = (λ e. absurd (not_held_apart (sym (same_error leaving.Memory leaving.NotHeld e))), λ none. absurd (none ended.0.0 ended.0.1));
+      allowed = (λ _. ended.0, λ _. refl);
+    }
+
+-- ---- A client gives up
+
+-- what the end of a cancel tells
+pub record CancelTells {X : Type 0} (result : Result X CancelError) (r : Resource) (client : ℕ) : Type 0 where
+  pub not_waiting : IsErrOf result cancelling.NotWaiting ↔ (IsKeptWaiting r client → ⊥)
+  pub allowed : IsOkUnless result cancelling.Memory ↔ IsKeptWaiting r client
+
+not_waiting_apart : cancelling.NotWaiting ≡ cancelling.Memory → ⊥
+not_waiting_apart e = cc
+
+-- a client gives up if it waits or is queued and memory does not run out
+pub cancelled_tells : (result : Result Outcome CancelError) (old : Resource) (client : ℕ) (new : Resource) (Same : Type 0)
+    → MatchResult result (λ o. CancelTurn old client o.sends.items o.marks.items new × IsConsistent new.state) (λ fault. IsCancelRefusal old client fault × Same) → CancelTells result old client
+cancelled_tells (Ok x) r client new Same ended =
+    let kept = kept_waiting_before r client x.sends.items x.marks.items new ended.0 in
+    record {
+      not_waiting = (λ e. absurd (ok_apart x cancelling.NotWaiting e), λ none. absurd (none kept));
+      allowed = (λ _. kept, λ _. tt);
+    }
+cancelled_tells (Err cancelling.NotWaiting) r client new Same ended =
+    record {
+      not_waiting = (λ _. ended.0, λ _. refl);
+      allowed = (λ e. absurd (not_waiting_apart e), λ kept. absurd (ended.0 kept));
+    }
+cancelled_tells (Err cancelling.Memory) r client new Same ended =
+    record {
+      not_waiting = (λ e. absurd (not_waiting_apart (sym (same_error cancelling.Memory cancelling.NotWaiting e))), λ none. absurd (none ended.0));
       allowed = (λ _. ended.0, λ _. refl);
     }

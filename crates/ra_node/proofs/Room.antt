@@ -16,10 +16,13 @@ use Rattle.ra_stamp.specs.declared.message.Message.{Message}
 use Rattle.ra_stamp.specs.declared.message.Message.TheVariants.{Request, Reply}
 use Rattle.ra_stamp.specs.declared.mode.Mode.{Mode}
 use Rattle.ra_automaton.specs.State.{State, IsOther, IsConsistent}
-use Rattle.ra_automaton.specs.Steps.{others_of, RequestStep, LeaveStep, ReceiveStep}
+use Rattle.ra_automaton.specs.Steps.{others_of, RequestStep, ReceiveStep}
+use Rattle.ra_automaton.proofs.Ending.{EndStep}
+use Rattle.ra_stamp.specs.declared.entry.Mark.TheVariants.{Left, Withdrawn}
 use Rattle.ra_node.specs.Resource.{Resource}
-use Rattle.ra_node.specs.Turns.{request_marks, next_entry, EntersBy, AsksAtOnce, AskTurn, LeaveTurn, ReceiveTurn}
-use Rattle.ra_node.proofs.Kept.{leave_keeps}
+use Rattle.ra_node.specs.Turns.{request_marks, next_entry, EntersBy, AsksAtOnce, AskTurn, Leaves, Withdraws, EndTurn, LeaveTurn, CancelTurn, ReceiveTurn}
+use Rattle.ra_node.proofs.Endings.{AreEnded, leaves_ended, withdraws_ended}
+use Rattle.ra_node.proofs.Kept.{end_keeps}
 use Rattle.ra_node.proofs.Lookups.{true_of}
 use Rattle.ra_node.proofs.Sends.{all_deferred}
 
@@ -69,8 +72,8 @@ request_room old mode sends entered new step =
     subst (λ (ms : List Message). length ms ≤ old.nodes) (sym step.sends_are)
     (subst (λ (k : ℕ). k ≤ old.nodes) (sym (length-map (others_of old.me old.nodes) (λ other. Request old.me other old.name mode (old.highest + 1)))) (others_room old.me old.nodes))
 
-leave_room : (old : State) (sends : List Message) (new : State) → IsConsistent old → LeaveStep old sends new → length sends ≤ old.nodes
-leave_room old sends new h step =
+end_room : (old : State) (sends : List Message) (new : State) → IsConsistent old → EndStep old sends new → length sends ≤ old.nodes
+end_room old sends new h step =
     subst (λ (ms : List Message). length ms ≤ old.nodes) (sym step.sends_are)
     (subst (λ (k : ℕ). k ≤ old.nodes) (sym (length-map (finmap.entries old.deferred) (λ (e : ℕ × ℕ). Reply old.me e.0 old.name e.1))) (deferred_room old h))
 
@@ -89,21 +92,33 @@ ask_room old client mode sends marks new turn =
       | inr queues ↦ (subst (λ (ms : List Message). length ms ≤ old.state.nodes) (sym queues.sends_are) (omega arith), subst (λ (ms : List Mark). length ms ≤ 2) (sym queues.marks_are) (omega arith))
     ]
 
-pub leave_turn_room : (old : Resource) (client : ℕ) (sends : List Message) (marks : List Mark) (new : Resource) → IsConsistent old.state → LeaveTurn old client sends marks new
+end_turn_room : (Ends : Entry → List Message → Resource → Type 0) (mark : Entry → Mark) (old : Resource) → AreEnded old Ends → (sends : List Message) (marks : List Mark) (new : Resource) → IsConsistent old.state → EndTurn Ends mark old sends marks new
     → (length sends ≤ 2 * old.state.nodes) × (length marks ≤ 3)
-leave_turn_room old client sends marks new h turn =
+end_turn_room Ends mark old ended sends marks new h turn =
     elim turn [
       | inl nobody ↦
-          let replies = leave_room old.state sends new.state h nobody.leaves.step in
+          let replies = end_room old.state sends new.state h (ended nobody.entry sends new nobody.ends).step in
           (omega (arith, replies), subst (λ (ms : List Mark). length ms ≤ 3) (sym nobody.marks_are) (omega arith))
       | inr hands ↦
-          let step = hands.leaves.step in
-          let replies = leave_room old.state hands.replies hands.between.state h step in
+          let step = (ended hands.entry hands.replies hands.between hands.ends).step in
+          let replies = end_room old.state hands.replies hands.between.state h step in
           let asked = asks_room (record hands.between { queue = hands.rest }) hands.next.client hands.next.mode hands.requests hands.asked new hands.asks in
-          let nodes = (leave_keeps old.state hands.replies hands.between.state step).nodes_is in (
+          let nodes = (end_keeps old.state hands.replies hands.between.state step).nodes_is in (
             subst (λ (ms : List Message). length ms ≤ 2 * old.state.nodes) (sym hands.sends_are) (omega (arith, length-append hands.replies hands.requests, replies, asked.0, nodes)),
             subst (λ (ms : List Mark). length ms ≤ 3) (sym hands.marks_are) (omega (arith, asked.1)),
           )
+    ]
+
+pub leave_turn_room : (old : Resource) (client : ℕ) (sends : List Message) (marks : List Mark) (new : Resource) → IsConsistent old.state → LeaveTurn old client sends marks new
+    → (length sends ≤ 2 * old.state.nodes) × (length marks ≤ 3)
+leave_turn_room old client sends marks new h turn = end_turn_room (Leaves old client) Left old (leaves_ended old client) sends marks new h turn
+
+pub cancel_turn_room : (old : Resource) (client : ℕ) (sends : List Message) (marks : List Mark) (new : Resource) → IsConsistent old.state → CancelTurn old client sends marks new
+    → (length sends ≤ 2 * old.state.nodes) × (length marks ≤ 3)
+cancel_turn_room old client sends marks new h turn =
+    elim turn [
+      | inl goes ↦ (subst (λ (ms : List Message). length ms ≤ 2 * old.state.nodes) (sym goes.sends_are) (omega arith), subst (λ (ms : List Mark). length ms ≤ 3) (sym goes.marks_are) (omega arith))
+      | inr ends ↦ end_turn_room (Withdraws old client) Withdrawn old (withdraws_ended old client) sends marks new h ends
     ]
 
 receive_step_room : (old : State) (message : Message) (sends : List Message) (entered : Bool) (new : State) → ReceiveStep old message sends entered new → length sends ≤ 1

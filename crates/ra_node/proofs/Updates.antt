@@ -1,5 +1,5 @@
--- What an event makes of its node: a stray leaves the node as it was, and every other event puts a resource under its
--- name.
+-- What an event that is about a name makes of its node: a stray leaves the node as it was, and every other one puts a resource under
+-- its name.
 use Rattle.std.proofs.Common.{◌≡◌, ◌≢◌, ◌⊎◌, ℕ, List, refl, sym, ap, ◌∙◌, subst, inl, inr}
 use Rattle.std.specs.FinMap as finmap
 use Rattle.ra_stamp.specs.declared.entry.Mark.{Mark}
@@ -9,8 +9,8 @@ use Rattle.ra_stamp.specs.Message.{name_of}
 use Rattle.ra_node.specs.Resource.{Resource, IsConsistentResource}
 use Rattle.ra_node.specs.Turns.{ReceiveTurn, IsStrayAt}
 use Rattle.ra_node.specs.Node.{NodeState, resource_at, with_resource, IsConsistentNode}
-use Rattle.ra_node.specs.Events.{ReceiveEvent, Event, name_of_event, NodeEvent}
-use Rattle.ra_node.specs.Events.Event.{Ask, Leave, Receive}
+use Rattle.ra_node.specs.Events.{ReceiveEvent, Event, IsNamed, name_of_event, NodeEvent}
+use Rattle.ra_node.specs.Events.Event.{Ask, Leave, Cancel, Receive, Forget}
 use Rattle.ra_node.proofs.Lookups.{resource_changed, entry_stays}
 use Rattle.ra_node.proofs.NodeLemmas.{with_kept}
 
@@ -57,10 +57,12 @@ receive_updates old new message sends marks event =
       | inr other ↦ inr (event.after_other other)
     ]
 
-pub event_updates : (old new : NodeState) (event : Event) (sends : List Message) (marks : List Mark) → NodeEvent old event sends marks new → (r : Resource) × IsUpdate old (name_of_event event) r new
-event_updates old new (Ask client name mode) sends marks event = (event.resource, inr event.new_is)
-event_updates old new (Leave client name) sends marks event = (event.resource, inr event.new_is)
-event_updates old new (Receive message) sends marks event = (event.resource, receive_updates old new message sends marks event)
+pub event_updates : (old new : NodeState) (event : Event) (sends : List Message) (marks : List Mark) → NodeEvent old event sends marks new → IsNamed event → (r : Resource) × IsUpdate old (name_of_event event) r new
+event_updates old new (Ask client name mode) sends marks event named = (event.resource, inr event.new_is)
+event_updates old new (Leave client name) sends marks event named = (event.resource, inr event.new_is)
+event_updates old new (Cancel client name) sends marks event named = (event.resource, inr event.new_is)
+event_updates old new (Receive message) sends marks event named = (event.resource, receive_updates old new message sends marks event)
+event_updates old new Forget sends marks event named = absurd named
 
 module _ (old new : NodeState) (name : List ℕ) (r : Resource) (update : IsUpdate old name r new) where
   pub updated_here : resource_at new name ≡ r

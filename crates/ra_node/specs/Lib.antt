@@ -4,6 +4,7 @@ pub mod Turns
 pub mod Faults
 pub mod HandedOver
 pub mod Node
+pub mod Forgetting
 pub mod Events
 pub mod Calls
 pub mod Carried

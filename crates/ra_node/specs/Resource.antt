@@ -1,5 +1,5 @@
 -- One resource at one node: what the algorithm keeps of it, and the clients of the node that use it.
-use Rattle.std.specs.Prelude.{◌≡◌, ◌≢◌, ℕ, ◌≤◌, List, [], ◌++◌, map, Option, Some, None, option_to_list, AllPairs, Contains, IsSome, refl}
+use Rattle.std.specs.Prelude.{◌≡◌, ◌≢◌, ◌⊎◌, ℕ, ◌≤◌, List, [], ◌++◌, map, Option, Some, None, option_to_list, AllPairs, Any, Contains, IsSome, refl}
 use Rattle.std.specs.Coded.{Coded, code_by, coded×, coded_ℕ, coded_list, coded_option}
 use Rattle.ra_stamp.specs.declared.entry.Entry.{Entry}
 use Rattle.ra_stamp.specs.declared.mode.Mode.{Mode}
@@ -65,6 +65,19 @@ waiter_of r = waiting_entry (use_of r)
 pub record Holds (r : Resource) (client : ℕ) (entry : Entry) : Type 0 where
   pub granted : holder_of r ≡ Some entry
   pub client_is : entry.client ≡ client
+
+-- the client waits for the resource, with this request
+pub record Waits (r : Resource) (client : ℕ) (entry : Entry) : Type 0 where
+  pub requested : waiter_of r ≡ Some entry
+  pub client_is : entry.client ≡ client
+
+-- the client is queued for the resource
+abbrev pub IsQueued : Resource → ℕ → Type 0
+IsQueued r client = Any (λ q. q.client ≡ client) r.queue
+
+-- the client has no lock yet: its request waits, or it is queued
+abbrev pub IsKeptWaiting : Resource → ℕ → Type 0
+IsKeptWaiting r client = ((entry : Entry) × Waits r client entry) ⊎ IsQueued r client
 
 -- the clients of a resource: the current one, and those that are queued
 abbrev pub clients_of : Resource → List ℕ

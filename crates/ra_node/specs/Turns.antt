@@ -1,10 +1,10 @@
 -- How the clients of a node take turns at one resource. A node has at most one request or hold on a resource; its
 -- further clients queue, first in, first out. So two clients of one node never hold a resource together, whatever
 -- their modes. Whatever a rule does not mention stays as it was.
-use Rattle.std.specs.Prelude.{◌≡◌, ◌≢◌, ◌⊎◌, ℕ, ◌+◌, ◌<◌, ◌≤◌, Bool, true, false, List, [], ◌∷◌, ◌++◌, Some, None}
+use Rattle.std.specs.Prelude.{◌≡◌, ◌≢◌, ◌⊎◌, ℕ, ◌+◌, ◌<◌, ◌≤◌, Bool, true, false, List, [], ◌∷◌, ◌++◌, Any, Some, None}
 use Rattle.ra_stamp.specs.declared.entry.Entry.{Entry}
 use Rattle.ra_stamp.specs.declared.entry.Mark.{Mark}
-use Rattle.ra_stamp.specs.declared.entry.Mark.TheVariants.{Requested, Entered, Left}
+use Rattle.ra_stamp.specs.declared.entry.Mark.TheVariants.{Requested, Entered, Left, Withdrawn}
 use Rattle.ra_stamp.specs.declared.message.Message.{Message}
 use Rattle.ra_stamp.specs.declared.message.Message.TheVariants.{Request, Reply}
 use Rattle.ra_stamp.specs.declared.mode.Mode.{Mode}
@@ -12,7 +12,7 @@ use Rattle.ra_automaton.specs.declared.phase.Phase.TheVariants.{Idle}
 use Rattle.ra_automaton.specs.Steps as automaton
 use Rattle.ra_automaton.specs.Steps.{greatest_number}
 use Rattle.ra_node.specs.declared.queued_client.Queued.{Queued}
-use Rattle.ra_node.specs.Resource.{Resource, entry_of, holder_of, Holds, IsBusy}
+use Rattle.ra_node.specs.Resource.{Resource, entry_of, holder_of, Holds, Waits, IsBusy}
 
 -- the marks of a request that is made, and granted at once or not
 abbrev pub request_marks : Bool → Entry → List Mark
@@ -53,9 +53,9 @@ AskTurn old client mode sends marks new =
     MayAsk old client × (AsksAtOnce old client mode sends marks new
     ⊎ QueuesUp old client mode sends marks new)
 
--- ---- The client that holds leaves.
+-- ---- The client that holds leaves, or one that waits gives up.
 
--- its request is released, each deferred REPLY goes out, and no client uses the resource
+-- the request of the client that holds is released, each deferred REPLY goes out, and no client uses the resource
 pub record Leaves (old : Resource) (client : ℕ) (entry : Entry) (sends : List Message)
     (new : Resource) : Type 0 where
   pub holds : Holds old client entry
@@ -63,22 +63,30 @@ pub record Leaves (old : Resource) (client : ℕ) (entry : Entry) (sends : List 
   pub client_is : new.client ≡ None
   pub queue_is : new.queue ≡ old.queue
 
--- if no client is queued, or no number is left, no client is next
-pub record LeavesToNobody (old : Resource) (client : ℕ) (sends : List Message) (marks : List Mark)
+-- the request of the client that waits is withdrawn, each deferred REPLY goes out, and no client uses the resource
+pub record Withdraws (old : Resource) (client : ℕ) (entry : Entry) (sends : List Message)
     (new : Resource) : Type 0 where
+  pub waits : Waits old client entry
+  pub step : automaton.WithdrawStep old.state sends new.state
+  pub client_is : new.client ≡ None
+  pub queue_is : new.queue ≡ old.queue
+
+-- the request ends, with this mark; if no client is queued, or no number is left, no client is next
+pub record EndsToNobody (Ends : Entry → List Message → Resource → Type 0) (mark : Entry → Mark) (old : Resource)
+    (sends : List Message) (marks : List Mark) (new : Resource) : Type 0 where
   pub entry : Entry
-  pub leaves : Leaves old client entry sends new
+  pub ends : Ends entry sends new
   pub nobody : (old.queue ≡ []) ⊎ (greatest_number ≤ old.state.highest)
-  pub marks_are : marks ≡ Left entry ∷ []
+  pub marks_are : marks ≡ mark entry ∷ []
 
 -- otherwise the first client of the queue leaves the queue and asks in the same event; the REPLYs go out before its
 -- REQUESTs
-pub record LeavesToNext (old : Resource) (client : ℕ) (sends : List Message) (marks : List Mark)
-    (new : Resource) : Type 0 where
+pub record EndsToNext (Ends : Entry → List Message → Resource → Type 0) (mark : Entry → Mark) (old : Resource)
+    (sends : List Message) (marks : List Mark) (new : Resource) : Type 0 where
   pub entry : Entry
   pub between : Resource
   pub replies : List Message
-  pub leaves : Leaves old client entry replies between
+  pub ends : Ends entry replies between
   pub next : Queued
   pub rest : List Queued
   pub queue_was : old.queue ≡ next ∷ rest
@@ -87,12 +95,36 @@ pub record LeavesToNext (old : Resource) (client : ℕ) (sends : List Message) (
   pub may : MayAsk (record between { queue = rest }) next.client
   pub asks : AsksAtOnce (record between { queue = rest }) next.client next.mode requests asked new
   pub sends_are : sends ≡ replies ++ requests
-  pub marks_are : marks ≡ Left entry ∷ asked
+  pub marks_are : marks ≡ mark entry ∷ asked
 
--- the client leaves; if another is queued and a number is left, the first of the queue asks in the same event
+-- the request ends; if another client is queued and a number is left, the first of the queue asks in the same event
+abbrev pub EndTurn : (Entry → List Message → Resource → Type 0) → (Entry → Mark) → Resource → List Message → List Mark
+    → Resource → Type 0
+EndTurn Ends mark old sends marks new = EndsToNobody Ends mark old sends marks new ⊎ EndsToNext Ends mark old sends marks new
+
+-- the client that holds leaves
 abbrev pub LeaveTurn : Resource → ℕ → List Message → List Mark → Resource → Type 0
-LeaveTurn old client sends marks new =
-    LeavesToNobody old client sends marks new ⊎ LeavesToNext old client sends marks new
+LeaveTurn old client sends marks new = EndTurn (Leaves old client) Left old sends marks new
+
+-- a client that is queued, and does not wait, leaves the queue, in which the others keep their order; nothing is sent or marked
+pub record LeavesQueue (old : Resource) (client : ℕ) (sends : List Message) (marks : List Mark)
+    (new : Resource) : Type 0 where
+  pub before : List Queued
+  pub gone : Queued
+  pub after : List Queued
+  pub client_is : gone.client ≡ client
+  pub queue_was : old.queue ≡ before ++ gone ∷ after
+  -- no client is here twice, so these two only say which way is taken
+  pub not_before : Any (λ q. q.client ≡ client) before → ⊥
+  pub waits_not : (entry : Entry) → Waits old client entry → ⊥
+  pub sends_are : sends ≡ []
+  pub marks_are : marks ≡ []
+  pub new_is : new ≡ record old { queue = before ++ after }
+
+-- a client gives up: it leaves the queue if it is queued, and withdraws its request if that waits
+abbrev pub CancelTurn : Resource → ℕ → List Message → List Mark → Resource → Type 0
+CancelTurn old client sends marks new =
+    LeavesQueue old client sends marks new ⊎ EndTurn (Withdraws old client) Withdrawn old sends marks new
 
 -- ---- A message comes.
 

@@ -1,10 +1,15 @@
 -- The slots of a node, one for each name that it has met, as the map from names to resources. No public contract speaks
 -- of slots.
-use Rattle.std.specs.Prelude.{◌≡◌, ℕ, ◌/◌, ◌^◌, List, cond, Some, length, sum_by}
+use Rattle.std.specs.Prelude.{◌≡◌, ℕ, ◌/◌, ◌^◌, max, nat_lt, Bool, true, false, ◌&&◌, List, [], ◌∷◌, cond, Option, Some, None, length, sum_by}
 use Rattle.std.specs.Str.{bytes_eq}
 use Rattle.std.specs.Map.{lookup}
 use Rattle.std.specs.FinMap as finmap
+use Rattle.ra_automaton.specs.declared.phase.Phase.{Phase}
+use Rattle.ra_automaton.specs.declared.phase.Phase.TheVariants as phase
+use Rattle.ra_automaton.specs.Steps.{greatest_number}
+use Rattle.ra_node.specs.declared.queued_client.Queued.{Queued}
 use Rattle.ra_node.specs.Resource.{Resource}
+use Rattle.ra_node.specs.Forgetting.{raised}
 use Rattle.ra_node.specs.Node.{NodeState, waiting_count, queued_count, IsConsistentNode}
 use Rattle.ra_node.specs.declared.node.Node.TheInside.{Inside}
 
@@ -25,6 +30,39 @@ Finds slots slots' name new =
 -- It is a sum, as the two totals are, so that the same lemmas keep all three when a slot changes.
 abbrev pub excess_of : NodeState → ℕ
 excess_of n = sum_by (λ e. length e.1.queue / 2 ^ 64) (finmap.entries n.resources)
+
+-- ---- Forgetting
+
+-- the number, or 0 if it is 2^64-1, which does not count
+abbrev pub if_counted : ℕ → ℕ
+if_counted number = cond (nat_lt number greatest_number) number 0
+
+-- the greatest of this number and of the highest numbers of these resources that count
+abbrev pub greatest_of : ℕ → List Resource → ℕ
+greatest_of number [] = number
+greatest_of number (r ∷ rs) = greatest_of (max number (if_counted r.state.highest)) rs
+
+abbrev pub is_idle : Phase → Bool
+is_idle phase.Idle = true
+is_idle (phase.Waiting seq mode) = false
+is_idle (phase.Inside seq mode) = false
+
+abbrev pub is_nobody : Option ℕ → Bool
+is_nobody None = true
+is_nobody (Some client) = false
+
+abbrev pub is_nothing : List Queued → Bool
+is_nothing [] = true
+is_nothing (q ∷ qs) = false
+
+-- whether nothing but its highest number need be kept of the resource
+abbrev pub is_forgettable : Resource → Bool
+is_forgettable r = is_idle r.state.phase && (is_nobody r.client && (is_nothing r.queue && nat_lt r.state.highest greatest_number))
+
+-- the slots of the names that are kept
+abbrev pub forgotten : ℕ → List (List ℕ × Resource) → List (List ℕ × Resource)
+forgotten number [] = []
+forgotten number (e ∷ es) = cond (is_forgettable e.1) (forgotten number es) ((e.0, raised number e.1) ∷ forgotten number es)
 
 -- what holds of the fields: the node is consistent, and the totals are the sums over all names
 pub record IsKept (n : Inside) : Type 0 where

@@ -32,3 +32,18 @@ impl fmt::Display for LeaveError {
         fmt::Debug::fmt(self, f)
     }
 }
+
+/// Why a client did not give up.
+#[derive(Clone, Copy, Debug, PartialEq, Eq, Error)]
+pub enum CancelError {
+    /// The client neither waits nor is queued for the name at this node.
+    NotWaiting,
+    /// Memory ran out.
+    Memory,
+}
+
+impl fmt::Display for CancelError {
+    fn fmt<W: fmt::Write>(&self, f: &mut fmt::Formatter<W>) -> fmt::Result {
+        fmt::Debug::fmt(self, f)
+    }
+}

@@ -7,25 +7,33 @@ ghost use Rattle.ra_stamp.specs.declared.message.Message.{Message};
 ghost use Rattle.ra_stamp.specs.declared.mode.Mode.{Mode};
 ghost use Rattle.ra_stamp.specs.Message.{seq_of};
 ghost use Rattle.ra_stamp.specs.NodeId.{IsNodeNumber};
-ghost use Rattle.ra_node.specs.Resource.{Holds, use_of};
+ghost use Rattle.ra_node.specs.Resource.{Holds, IsKeptWaiting, use_of};
 ghost use Rattle.ra_node.specs.Turns.{MayAsk};
 ghost use Rattle.ra_node.specs.Node.{NodeState, opening_node, resource_at, clients_count, IsConsistentNode};
-ghost use Rattle.ra_node.specs.Events.{Event, Happening, name_of_event, NodeEvent, NodeEvents, AllowsEvent, IsForThisNode, AreForThisNode};
+ghost use Rattle.ra_node.specs.Forgetting.{raised};
+ghost use Rattle.ra_node.specs.Events.{Event, Happening, IsNamed, AreNamed, name_of_event, NodeEvent, NodeEvents, AllowsEvent, IsForThisNode, AreForThisNode};
 ghost use Rattle.ra_node.specs.Carried.{IsSend, IsMark, MarksLead, sends_at_most, marks_at_most, replies_at_most, entries_at_most};
 
-/// An event about one name leaves all other names, and the identity of the node, as they were.
+/// An event about one name leaves all other names, and the identity of the node, as they were. To forget is about no
+/// name. It raises the highest number of each name and of those that are not met to one number, if they are lower,
+/// and changes nothing else.
 pub fn events_leave_other_names()
     ensures entry { (old new : NodeState) (event : Event) (sends : List Message) (marks : List Mark)
         (other : List ℕ)
-        → NodeEvent old event sends marks new → other ≢ name_of_event event
+        → NodeEvent old event sends marks new → IsNamed event → other ≢ name_of_event event
         → map.get new.resources other ≡ map.get old.resources other }
     ensures resource { (old new : NodeState) (event : Event) (sends : List Message) (marks : List Mark)
         (other : List ℕ)
-        → NodeEvent old event sends marks new → other ≢ name_of_event event
+        → NodeEvent old event sends marks new → IsNamed event → other ≢ name_of_event event
         → resource_at new other ≡ resource_at old other }
     ensures node { (old new : NodeState) (event : Event) (sends : List Message) (marks : List Mark)
         → NodeEvent old event sends marks new
-        → (new.me ≡ old.me) × (new.nodes ≡ old.nodes) × (new.start ≡ old.start) }
+        → (new.me ≡ old.me) × (new.nodes ≡ old.nodes) × (old.start ≤ new.start) }
+    ensures start { (old new : NodeState) (event : Event) (sends : List Message) (marks : List Mark)
+        → NodeEvent old event sends marks new → IsNamed event → new.start ≡ old.start }
+    ensures forgets { (old new : NodeState) (sends : List Message) (marks : List Mark)
+        → NodeEvent old Event.Forget sends marks new
+        → (number : ℕ) × ((name : List ℕ) → resource_at new name ≡ raised number (resource_at old name)) }
 {}
 
 /// A node that has met nothing is consistent, and each event of a node leads from a consistent node to a consistent
@@ -67,8 +75,8 @@ pub fn events_keep_a_node_consistent()
 {}
 
 /// Events of a node, one after the other, lead from a consistent node to a consistent one, and so do those of a node
-/// that had met nothing. The node's identity does not change. Whether each event is for this node may be judged by the
-/// node as it was at first.
+/// that had met nothing. The node's identity does not change, and its start rises only if it forgets. Whether each
+/// event is for this node may be judged by the node as it was at first.
 pub fn histories_keep_a_node_consistent()
     ensures consistent { (old new : NodeState) (happened : List Happening)
         → IsConsistentNode old → AreForThisNode old happened → NodeEvents old happened new
@@ -77,7 +85,9 @@ pub fn histories_keep_a_node_consistent()
         → IsNodeNumber nodes → (1 ≤ me) × (me ≤ nodes) → AreForThisNode (opening_node me nodes start) happened
         → NodeEvents (opening_node me nodes start) happened new → IsConsistentNode new }
     ensures node { (old new : NodeState) (happened : List Happening) → NodeEvents old happened new
-        → (new.me ≡ old.me) × (new.nodes ≡ old.nodes) × (new.start ≡ old.start) }
+        → (new.me ≡ old.me) × (new.nodes ≡ old.nodes) × (old.start ≤ new.start) }
+    ensures start { (old new : NodeState) (happened : List Happening) → NodeEvents old happened new → AreNamed happened
+        → new.start ≡ old.start }
 {}
 
 /// A node's state and an event determine what is sent, what is marked, and the state after it.
@@ -90,8 +100,8 @@ pub fn events_are_determined()
         → NodeEvents old happened a → NodeEvents old happened b → a ≡ b }
 {}
 
-/// An ask adds one to the clients that wait, are queued or hold at a node, a leave takes one away, and a message neither.
-/// So a caller can keep for each client what its leave will need.
+/// An ask adds one to the clients that wait, are queued or hold at a node, a leave and a cancel take one away, and a
+/// message and to forget do neither. So a caller can keep for each client what its leave or its cancel will need.
 pub fn events_count_clients()
     ensures opening { (me nodes start : ℕ) → clients_count (opening_node me nodes start) ≡ 0 }
     ensures ask { (old new : NodeState) (client : ℕ) (name : List ℕ) (mode : Mode) (sends : List Message)
@@ -101,24 +111,35 @@ pub fn events_count_clients()
     ensures leave { (old new : NodeState) (client : ℕ) (name : List ℕ) (sends : List Message) (marks : List Mark)
         → NodeEvent old (Event.Leave client name) sends marks new
         → clients_count new + 1 ≡ clients_count old }
+    ensures cancel { (old new : NodeState) (client : ℕ) (name : List ℕ) (sends : List Message) (marks : List Mark)
+        → NodeEvent old (Event.Cancel client name) sends marks new
+        → clients_count new + 1 ≡ clients_count old }
     ensures receive { (old new : NodeState) (message : Message) (sends : List Message) (marks : List Mark)
         → NodeEvent old (Event.Receive message) sends marks new
         → clients_count new ≡ clients_count old }
+    ensures forget { (old new : NodeState) (sends : List Message) (marks : List Mark)
+        → NodeEvent old Event.Forget sends marks new
+        → clients_count new ≡ clients_count old }
     ensures holds { (node : NodeState) (client : ℕ) (name : List ℕ) (entry : Entry)
         → Holds (resource_at node name) client entry → 1 ≤ clients_count node }
+    ensures kept_waiting { (node : NodeState) (client : ℕ) (name : List ℕ)
+        → IsKeptWaiting (resource_at node name) client → 1 ≤ clients_count node }
 {}
 
 /// Which events are possible at a consistent node. A client may ask if it neither waits, nor is queued, nor holds, and
-/// a number is left. It may leave if it holds. A message may come at any time; `IsForThisNode` says whether it is for
-/// this node.
+/// a number is left. It may leave if it holds, and cancel if it waits or is queued. A message may come at any time;
+/// `IsForThisNode` says whether it is for this node. A node may forget at any time.
 pub fn events_exist_where_they_are_allowed()
     ensures ask { (old : NodeState) (client : ℕ) (name : List ℕ) (mode : Mode) → IsConsistentNode old
         → AllowsEvent old (Event.Ask client name mode) ↔ MayAsk (resource_at old name) client }
     ensures leave { (old : NodeState) (client : ℕ) (name : List ℕ) → IsConsistentNode old
         → AllowsEvent old (Event.Leave client name)
         ↔ ((entry : Entry) × Holds (resource_at old name) client entry) }
+    ensures cancel { (old : NodeState) (client : ℕ) (name : List ℕ) → IsConsistentNode old
+        → AllowsEvent old (Event.Cancel client name) ↔ IsKeptWaiting (resource_at old name) client }
     ensures receive { (old : NodeState) (message : Message)
         → IsConsistentNode old → AllowsEvent old (Event.Receive message) }
+    ensures forget { (old : NodeState) → IsConsistentNode old → AllowsEvent old Event.Forget }
 {}
 
 /// Lists of events can be extended by one event, and each part of a list of events is a list of events.

@@ -7,10 +7,12 @@
 //!
 //! - It makes each node once, with [`Node::new`], and gives each a number of its own, and all the same count of nodes
 //!   and the same start.
-//! - For a client it calls [`Node::ask`] or [`Node::leave`], and for a message [`Node::receive`].
+//! - For a client it calls [`Node::ask`], [`Node::leave`] or [`Node::cancel`], and for a message [`Node::receive`]. A
+//!   client that gives up may have been let in just before; then it holds the lock, and leaves.
+//! - If clients come with ever new names, it calls [`Node::forget`] now and then.
 //! - It sends each message of the [`Outcome`] to the node that the message is for.
 //! - It follows the marks of the outcome. A client has the lock from its mark Entered until it leaves. The mark may
-//!   come with its own ask, with a message, or with the leave of another client of the node.
+//!   come with its own ask, with a message, or with the leave or the cancel of another client of the node.
 //!
 //! ```text
 //! let mut node = Node::new(alloc, me, 3, 0)?;
@@ -49,12 +51,13 @@ mod laws;
 mod listing;
 mod marks;
 mod node;
+mod numbers;
 mod outcome;
 mod queue;
 mod queued_client;
 mod slot;
 
-pub use error::{AskError, LeaveError};
+pub use error::{AskError, CancelError, LeaveError};
 pub use laws::{
     events_are_determined, events_count_clients, events_exist_where_they_are_allowed, events_go_on,
     events_keep_a_node_consistent, events_leave_other_names, histories_keep_a_node_consistent,

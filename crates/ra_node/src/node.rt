@@ -3,9 +3,10 @@ ghost use Rattle.ra_node.specs.Resource.{unmet};
 ghost use Rattle.ra_node.specs.Room.{IsNothing, HasRoomToLeave, answer_with};
 
 use crate::listing::{held_of, names_of};
+use crate::numbers::common_number;
 use crate::outcome::nothing;
 use crate::slot::Slot;
-use crate::{AskError, LeaveError, NewError, Outcome, Queued, ReceiveError};
+use crate::{AskError, CancelError, LeaveError, NewError, Outcome, Queued, ReceiveError};
 use ra_automaton::check_address;
 use ra_stamp::{Entry, Member, Memory, Message, Mode, Name, NodeCount, NodeId};
 use std::alloc::Global;
@@ -15,20 +16,21 @@ use std::marker::Model;
 /// A node: many resources by their names, and the node's clients. Contracts see the map from names to resources.
 ///
 /// A client is any number, which means nothing to another node. A node has met a name if a client asked for it or a
-/// REQUEST was about it. It keeps every such name, since the highest number that it has met on a name must never fall.
+/// REQUEST was about it. It keeps every such name until it forgets, since the highest number that it has met on a
+/// name must never fall.
 ///
 /// Each call finds its name by a hash, in expected constant time however many names the node has met. The comment of a
 /// call gives its other costs. The first call about a name may move all names into a larger table, which is constant on
 /// average. The hash is fixed: if somebody picks names that collide, each look-up is linear in their number. A client
 /// in a long queue is also found by such a hash; in a short queue each client is looked at.
 ///
-/// [`events_keep_a_node_consistent`](crate::events_keep_a_node_consistent) says more of what `ask`, `leave` and
-/// `receive` send and mark: to which nodes, with which numbers, how much at most, and that a node has at most one
+/// [`events_keep_a_node_consistent`](crate::events_keep_a_node_consistent) says more of what `ask`, `leave`, `cancel`
+/// and `receive` send and mark: to which nodes, with which numbers, how much at most, and that a node has at most one
 /// request on a name.
 pub struct Node {
     member: Member,
     start: u64,
-    /// One for each name that the node has met.
+    /// One for each name that the node keeps.
     slots: HashMap<Name, Slot>,
     /// How many requests wait for their REPLYs, over all names. It fits in a `u64`, since a node has at most one
     /// waiting request on a name, and memory for fewer than 2^64 names.
@@ -66,7 +68,8 @@ impl Drop for Node {
     }
 }
 
-/// Drops a slot, if there is one. The functions that give one up call this, so that how its parts are freed is proved once for them.
+/// Drops a slot, if there is one. The functions that give one up call this, so that how its parts are freed is proved
+/// once for them.
 fn drop_slot(_slot: Option<Slot>) {}
 
 impl Node {
@@ -76,11 +79,12 @@ impl Node {
     ghost use Rattle.ra_stamp.specs.Message.{name_of};
     ghost use Rattle.ra_automaton.specs.Calls.{ChecksAddress};
     ghost use Rattle.ra_automaton.specs.Members.{ChecksMember};
-    ghost use Rattle.ra_node.specs.Resource.{Holds, holder_of, waiter_of, IsConsistentResource};
+    ghost use Rattle.ra_node.specs.Resource.{Holds, holder_of, waiter_of, IsKeptWaiting, IsConsistentResource};
     ghost use Rattle.ra_node.specs.Turns.{MayAsk};
     ghost use Rattle.ra_node.specs.Node.{opening_node, resource_at, with_resource, waiting_count, queued_count, IsConsistentNode};
-    ghost use Rattle.ra_node.specs.Events.{AskEvent, ReceiveEvent};
-    ghost use Rattle.ra_node.specs.Calls.{AnswersMayAsk, AnswersLeave};
+    ghost use Rattle.std.specs.Prelude.{[]};
+    ghost use Rattle.ra_node.specs.Events.{AskEvent, ReceiveEvent, ForgetEvent};
+    ghost use Rattle.ra_node.specs.Calls.{AnswersMayAsk, AnswersLeave, AnswersCancel};
     ghost use Rattle.ra_node.specs.Faults.{IsAskRefusal};
     ghost use Rattle.ra_node.specs.Memory.{BringsNothing};
     ghost use Rattle.ra_node.specs.Overview.{AreNames, AreHeld};
@@ -186,8 +190,8 @@ impl Node {
         }
     }
 
-    /// Leaves a name as `leave` does, and puts what is sent and marked into an empty outcome, which is lent. It does not
-    /// allocate if that is of [`Outcome::for_leave`], made for this many nodes.
+    /// Leaves a name as `leave` does, and puts what is sent and marked into an empty outcome, which is lent. It does
+    /// not allocate if that is of [`Outcome::for_leave`], made for this many nodes.
     ///
     /// # Errors
     ///
@@ -218,6 +222,77 @@ impl Node {
         self.waiting = waiting + slot.waiting();
         self.queued = queued + slot.queued() as u128;
         left
+    }
+
+    /// Gives up for a client that waits or is queued for a name. A client that is queued leaves the queue, and
+    /// nothing is sent or marked. The request of one that waits is withdrawn: each deferred REPLY goes out, and in
+    /// the same event the first client in the name's queue asks, unless the highest number of the name is 2^64-1. The
+    /// marks are then Withdrawn, and Requested if a client asks. The other nodes are not told, and a REPLY to the
+    /// withdrawn request is a stray. The cost is linear in the number of nodes and in the length of the name's queue.
+    ///
+    /// # Errors
+    ///
+    /// The first that holds, and the node is as before:
+    ///
+    /// 1. `NotWaiting`: the client neither waits nor is queued for the name here. A client that was let in holds it.
+    /// 2. `Memory`: nothing has changed, and the call can be made again.
+    pub fn cancel(&mut self, alloc: Global, client: u32, name: Name) -> Result<Outcome, CancelError>
+        ensures cancelled { AnswersCancel self.old client name result self.new }
+        ensures consistent { IsConsistentNode self.new }
+    {
+        let mut outcome = nothing(alloc);
+        match self.cancel_into(alloc, client, name, &mut outcome) {
+            Ok(()) => Ok(outcome),
+            Err(fault) => Err(fault),
+        }
+    }
+
+    /// Gives up as `cancel` does, and puts what is sent and marked into an empty outcome, which is lent. It does not
+    /// allocate if that is of [`Outcome::for_leave`], made for this many nodes.
+    ///
+    /// # Errors
+    ///
+    /// Those of `cancel`. After `NotWaiting` the outcome is as before, with its room. `Memory` comes only if the
+    /// outcome has less room, and leaves it empty.
+    pub fn cancel_into(
+        &mut self,
+        alloc: Global,
+        client: u32,
+        name: Name,
+        outcome: &mut Outcome,
+    ) -> Result<(), CancelError>
+        requires { IsNothing outcome.old }
+        ensures cancelled { AnswersCancel self.old client name (answer_with result outcome.new) self.new }
+        ensures consistent { IsConsistentNode self.new }
+        ensures room { HasRoomToLeave self.old.nodes outcome.old → IsErrOf result CancelError.Memory → ⊥ }
+        ensures kept { IsErrOf result CancelError.NotWaiting → outcome.new ≡ outcome.old }
+        ensures nothing { OnErr result (IsNothing outcome.new) }
+    {
+        // The totals have room, since there are fewer than 2^64 names.
+        prove!(self.slots.len() < usize::MAX);
+        let Some(slot) = self.slots.get_mut(&name) else {
+            return Err(CancelError::NotWaiting);
+        };
+        let waiting = self.waiting - slot.waiting();
+        let queued = self.queued - slot.queued() as u128;
+        let given_up = slot.cancel(alloc, client, outcome);
+        self.waiting = waiting + slot.waiting();
+        self.queued = queued + slot.queued() as u128;
+        given_up
+    }
+
+    /// Forgets the names of which nothing but the highest number need be kept: no request waits or is granted, no
+    /// client is queued, and a number is left. The node's start and its highest numbers rise to the greatest of them,
+    /// without those at 2^64-1, which stay. So a name that is forgotten goes on with a number that is high enough.
+    /// Nothing is sent or marked. It does not allocate, and the table of names keeps its room. The cost is linear in
+    /// that room.
+    pub fn forget(&mut self)
+        ensures forgotten { ForgetEvent self.old [] [] self.new }
+        ensures consistent { IsConsistentNode self.new }
+    {
+        let number = common_number(self.start, &self.slots);
+        self.start = self.start.max(number);
+        self.slots.retain(|_, slot| slot.raise(number));
     }
 
     /// Takes a message from another node. With the last REPLY that it awaits, the node's request enters, with the mark
@@ -259,8 +334,8 @@ impl Node {
         }
     }
 
-    /// Checks that a message is for this node, and from another one of its cluster, as `receive` does first. It does not
-    /// allocate.
+    /// Checks that a message is for this node, and from another one of its cluster, as `receive` does first. It does
+    /// not allocate.
     ///
     /// # Errors
     ///
@@ -336,6 +411,18 @@ impl Node {
         }
     }
 
+    /// Returns whether a client waits or is queued for a name at this node, so that it may give up. It does not
+    /// allocate. The cost is that of `may_ask`.
+    pub fn is_kept_waiting(&self, client: u32, name: &Name) -> bool
+        ensures kept { IsTrue result ↔ IsKeptWaiting (resource_at self.now name.now) client }
+        ensures consistent { IsConsistentNode self.now }
+    {
+        match self.slot_of(name) {
+            Some(slot) => slot.is_kept_waiting(client),
+            None => false,
+        }
+    }
+
     /// Returns the request of this node that waits on a name for its REPLYs, or `None`. It does not allocate.
     pub fn waiter(&self, name: &Name) -> Option<Entry>
         ensures value { result ≡ waiter_of (resource_at self.now name.now) }
@@ -358,8 +445,8 @@ impl Node {
         }
     }
 
-    /// Returns the number of the request of another node on a name whose REPLY is deferred, or `None` if it is not. It does
-    /// not allocate.
+    /// Returns the number of the request of another node on a name whose REPLY is deferred, or `None` if it is not.
+    /// It does not allocate.
     pub fn deferred(&self, name: &Name, other: NodeId) -> Option<u64>
         ensures value { result ≡ map.get (resource_at self.now name.now).state.deferred other }
         ensures consistent { IsConsistentNode self.now }
@@ -381,8 +468,8 @@ impl Node {
         }
     }
 
-    /// Returns the client at this place in the queue of a name, counted from 0 from the next one on, or `None` past the end.
-    /// It does not allocate.
+    /// Returns the client at this place in the queue of a name, counted from 0 from the next one on, or `None` past
+    /// the end. It does not allocate.
     pub fn queued_at(&self, name: &Name, place: usize) -> Option<Queued>
         ensures value { result ≡ slice_get (resource_at self.now name.now).queue place }
         ensures consistent { IsConsistentNode self.now }
@@ -393,7 +480,8 @@ impl Node {
         }
     }
 
-    /// Returns the highest number that this node has met on a name, 0 to 2^64-1. It does not allocate.
+    /// Returns the highest number that this node has met on a name, or to which the number rose when the node forgot, 0
+    /// to 2^64-1. It does not allocate.
     pub fn highest(&self, name: &Name) -> u64
         ensures value { result ≡ (resource_at self.now name.now).state.highest }
         ensures consistent { IsConsistentNode self.now }
@@ -437,7 +525,8 @@ impl Node {
         self.member.count()
     }
 
-    /// Returns the highest number of a name that the node has not met yet, 0 to 2^64-1. It does not allocate.
+    /// Returns the highest number of a name that the node has not met yet, or has forgotten, 0 to 2^64-1. It does not
+    /// allocate.
     pub fn start(&self) -> u64
         ensures value { result ≡ self.now.start }
         ensures consistent { IsConsistentNode self.now }
@@ -445,7 +534,7 @@ impl Node {
         self.start
     }
 
-    /// Returns how many names the node has met. It does not allocate.
+    /// Returns how many names the node keeps: those that it has met and not forgotten. It does not allocate.
     pub fn names_len(&self) -> usize
         ensures value { result ≡ map.len self.now.resources }
         ensures consistent { IsConsistentNode self.now }
@@ -453,7 +542,7 @@ impl Node {
         self.slots.len()
     }
 
-    /// Returns the names that the node has met, in ascending order of their bytes. The cost is that of sorting them.
+    /// Returns the names that the node keeps, in ascending order of their bytes. The cost is that of sorting them.
     ///
     /// # Errors
     ///
@@ -466,7 +555,7 @@ impl Node {
     }
 
     /// Returns the requests that are granted at this node, in ascending order of the bytes of their names. The cost is
-    /// linear in the number of names that the node has met, and that of sorting those that are held.
+    /// linear in the number of names that the node keeps, and that of sorting those that are held.
     ///
     /// # Errors
     ///
@@ -478,7 +567,7 @@ impl Node {
         held_of(alloc, &self.slots)
     }
 
-    /// Returns the slot of a name, or `None` if the node has not met it yet.
+    /// Returns the slot of a name, or `None` if the node does not keep it.
     fn slot_of(&self, name: &Name) -> Option<&Slot>
         ensures found { IfSome result (λ slot. slot.now ≡ resource_at self.now name.now) }
         ensures absent { IsNone result
@@ -523,8 +612,8 @@ impl Node {
         Ok(outcome)
     }
 
-    /// Takes a message for this node about a name that the node has not met yet. A REQUEST is answered, and the node has
-    /// met its name then.
+    /// Takes a message for this node about a name that the node has not met yet. A REQUEST is answered, and the node
+    /// has met its name then.
     ///
     /// # Errors
     ///

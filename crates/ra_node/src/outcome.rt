@@ -10,13 +10,20 @@ use std::alloc::Global;
 pub struct Outcome {
     /// The messages to send, in this order: REPLYs before REQUESTs, each in ascending order of the nodes.
     pub sends: Messages,
-    /// What became of the clients' requests, in this order: Left, Requested, Entered.
+    /// What became of the clients' requests, in this order: Left or Withdrawn, Requested, Entered.
     pub marks: Marks,
 }
 
 impl Outcome {
-    /// Makes an outcome that is empty, with room for all that a leave sends and marks at one of this many nodes. A caller
-    /// that makes it before it asks has what [`Node::leave_into`](crate::Node::leave_into) needs.
+    /// Makes the outcome of an event that sends and marks nothing, as to forget does. It does not allocate.
+    pub fn nothing(alloc: Global) -> Outcome
+        ensures { IsNothing result }
+    {
+        nothing(alloc)
+    }
+
+    /// Makes an outcome that is empty, with room for all that a leave or a cancel sends and marks at one of this many
+    /// nodes. A caller that makes it before it asks has what [`Node::leave_into`](crate::Node::leave_into) needs.
     ///
     /// # Errors
     ///

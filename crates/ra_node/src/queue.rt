@@ -1,7 +1,7 @@
 //! The clients that wait for their turns at one resource.
-ghost use Rattle.std.specs.Prelude.{◌≡◌, ◌↔◌, ◌++◌, ◌∷◌, [], List, take, length, slice_get, Any, MatchOption, IsTrue, IsNone, IfSome, OnOk, OnErr};
+ghost use Rattle.std.specs.Prelude.{◌≡◌, ◌↔◌, ◌<◌, ◌++◌, ◌∷◌, [], List, take, length, get_or, slice_get, Any, MatchOption, IsTrue, IsNone, IfSome, OnOk, OnErr};
 ghost use Rattle.std.specs.HashMap.{keys};
-ghost use Rattle.ra_node.specs.Queue.{AreApart, AreClients};
+ghost use Rattle.ra_node.specs.Queue.{AreApart, AreClients, TakesOut};
 ghost use Rattle.ra_node.specs.declared.queued_client.Queued.{Queued};
 
 use crate::queued_client::Queued;
@@ -13,14 +13,15 @@ use std::marker::Model;
 /// If no more clients than these are queued, they are looked through.
 const MAX_LINEAR_SCAN: usize = 16;
 
-/// The clients of a long queue as keys, in any order. They are behind a pointer, since most queues are short and have none.
+/// The clients of a long queue as keys, in any order. They are behind a pointer, since most queues are short and have
+/// none.
 type Known = Box<HashMap<u32, ()>>;
 
 /// A queue of clients, the first one next. Contracts see the list.
 ///
-/// A long queue knows its clients, so that one is found by a hash and not by looking at each. They are learned when a client
-/// comes to a long queue, and known until the queue has run empty. So they are not learned again and again when its length goes
-/// up and down. A queue for which there was no memory to know them does the same in more time.
+/// A long queue knows its clients, so that one is found by a hash and not by looking at each. They are learned when a
+/// client comes to a long queue, and known until the queue has run empty. So they are not learned again and again
+/// when its length goes up and down. A queue for which there was no memory to know them does the same in more time.
 #[derive(Drop)]
 pub struct Queue {
     clients: VecDeque<Queued>,
@@ -59,8 +60,8 @@ impl Queue {
         self.clients.len()
     }
 
-    /// Returns whether a client is queued, in expected constant time, or in time linear in the length of the queue if there was
-    /// no memory to know its clients.
+    /// Returns whether a client is queued, in expected constant time, or in time linear in the length of the queue if
+    /// there was no memory to know its clients.
     pub fn has(&self, client: u32) -> bool
         ensures { IsTrue result ↔ Any (λ queued. queued.client ≡ client) self.now }
     {
@@ -85,8 +86,8 @@ impl Queue {
         self.clients.get(place).copied()
     }
 
-    /// Puts a client after all others, in amortized constant time on average, or in time linear in the length of the queue if
-    /// there was no memory to know its clients.
+    /// Puts a client after all others, in amortized constant time on average, or in time linear in the length of the
+    /// queue if there was no memory to know its clients.
     ///
     /// # Errors
     ///
@@ -109,22 +110,50 @@ impl Queue {
         self.known = unlearn(self.known.take(), &first, &self.clients);
         Some(first)
     }
+
+    /// Takes a client out, wherever it is, and returns whether it was queued. The others keep their order. No client
+    /// may be queued twice. The cost is linear in the length of the queue.
+    pub fn remove(&mut self, client: u32) -> bool
+        requires { AreApart self.old }
+        ensures { TakesOut self.old client result self.new }
+    {
+        let Some(place) = place_of(&self.clients, client) else {
+            return false;
+        };
+        let Some(gone) = self.clients.remove(place) else {
+            return false;
+        };
+        self.known = unlearn(self.known.take(), &gone, &self.clients);
+        true
+    }
+}
+
+/// Returns the place of a client among these, which are looked at one by one, or `None` if it is not among them.
+fn place_of(clients: &VecDeque<Queued>, client: u32) -> Option<usize>
+    ensures found { IfSome result (λ place. (queued : Queued) × (place < length clients.now.items)
+        × (get_or clients.now.items place queued ≡ queued) × (queued.client ≡ client)) }
+    ensures none { IsNone result → Any (λ queued. queued.client ≡ client) clients.now.items → ⊥ }
+{
+    for place in 0..clients.len() {
+        if clients[place].client == client {
+            return Some(place);
+        }
+    }
+    None
 }
 
 /// Returns whether a client is among these, which are looked at one by one.
 fn is_among(clients: &VecDeque<Queued>, client: u32) -> bool
     ensures { IsTrue result ↔ Any (λ queued. queued.client ≡ client) clients.now.items }
 {
-    for place in 0..clients.len() {
-        if clients[place].client == client {
-            return true;
-        }
+    match place_of(clients, client) {
+        Some(_) => true,
+        None => false,
     }
-    false
 }
 
-/// Learns the last client, which was put after the others, or all if they are many and were not known. Returns those that are
-/// known then.
+/// Learns the last client, which was put after the others, or all if they are many and were not known. Returns those
+/// that are known then.
 fn learn_last(
     alloc: Global,
     known: Option<Known>,
@@ -168,8 +197,8 @@ fn learn(mut known: Known, client: u32) -> Option<Known>
 
 /// Forgets a client that is no longer queued, and all if none is left. Returns those that are known then.
 fn unlearn(known: Option<Known>, gone: &Queued, left: &VecDeque<Queued>) -> Option<Known>
-    ensures { AreApart (gone.now ∷ left.now.items)
-        → IfSome known (λ k. AreClients (keys k.value) (gone.now ∷ left.now.items))
+    ensures { (before after : List Queued) → left.now.items ≡ before ++ after → AreApart (before ++ gone.now ∷ after)
+        → IfSome known (λ k. AreClients (keys k.value) (before ++ gone.now ∷ after))
         → IfSome result (λ k. AreClients (keys k.value) left.now.items) }
 {
     let mut known = known?;

@@ -1,6 +1,6 @@
-ghost use Rattle.std.specs.Prelude.{◌≡◌, ◌≢◌, ◌*◌, ◌<◌, ◌≤◌, ◌⊎◌, ◌↔◌, ◌∷◌, [], length, slice_get, take, IsTrue, IsErrOf, IsOk, IfOk, MatchResult, AllPairs, IsNone, IfSome, OnErr};
+ghost use Rattle.std.specs.Prelude.{◌≡◌, ◌≢◌, ◌*◌, ◌<◌, ◌≤◌, ◌⊎◌, ◌↔◌, ◌∷◌, [], length, slice_get, take, not, IsTrue, IsErrOf, IsOk, IfOk, MatchResult, AllPairs, IsNone, IfSome, OnErr};
 ghost use Rattle.ra_stamp.specs.declared.entry.Entry.{Entry};
-ghost use Rattle.ra_stamp.specs.declared.entry.Mark.TheVariants.{Left};
+ghost use Rattle.ra_stamp.specs.declared.entry.Mark.TheVariants.{Left, Withdrawn};
 ghost use Rattle.ra_node.specs.Resource.{entry_of};
 ghost use Rattle.ra_node.specs.Room.{IsNothing, HasRoomToLeave, answer_with};
 
@@ -8,7 +8,7 @@ use crate::marks::{marks_for, push_request, push_reserved};
 use crate::outcome::nothing;
 use crate::queue::Queue;
 use crate::queued_client::Queued;
-use crate::{AskError, LeaveError, Outcome};
+use crate::{AskError, CancelError, LeaveError, Outcome};
 use ra_automaton::{Automaton, Phase, ReceiveError};
 use ra_stamp::{Entry, Mark, Marks, Member, Message, Messages, Mode, Name, NodeId, Stamp};
 use std::alloc::Global;
@@ -41,14 +41,16 @@ impl Slot {
     ghost use Rattle.std.specs.FinSet as set;
     ghost use Rattle.std.specs.FinMap as finmap;
     ghost use Rattle.ra_stamp.specs.Message.{name_of};
-    ghost use Rattle.ra_automaton.specs.State.{IsAddressed, IsConsistent, IsInside};
-    ghost use Rattle.ra_automaton.specs.Steps.{greatest_number, LetsEnter};
-    ghost use Rattle.ra_node.specs.Resource.{unmet, holder_of, waiter_of, Holds, IsBusy, waiting_at, ClientFits, clients_of};
+    ghost use Rattle.ra_automaton.specs.State.{IsAddressed, IsConsistent, IsInside, IsWaitingPhase};
+    ghost use Rattle.ra_automaton.specs.Steps.{greatest_number, LetsEnter, LeaveStep, WithdrawStep};
+    ghost use Rattle.ra_node.specs.Resource.{unmet, holder_of, waiter_of, Holds, Waits, IsKeptWaiting, IsBusy, waiting_at, ClientFits, clients_of};
     ghost use Rattle.ra_node.specs.Calls.{AnswersMayAsk};
-    ghost use Rattle.ra_node.specs.Turns.{AskTurn, AsksAtOnce, QueuesUp, LeaveTurn, ReceiveTurn, next_entry};
-    ghost use Rattle.ra_node.specs.Faults.{IsAskRefusal, IsLeaveRefusal};
+    ghost use Rattle.ra_node.specs.Turns.{AskTurn, AsksAtOnce, QueuesUp, LeaveTurn, CancelTurn, ReceiveTurn, next_entry};
+    ghost use Rattle.ra_node.specs.Faults.{IsAskRefusal, IsLeaveRefusal, IsCancelRefusal};
     ghost use Rattle.ra_node.specs.HandedOver.{IsHandedOver};
     ghost use Rattle.ra_node.specs.Memory.{BringsNothingTo};
+    ghost use Rattle.ra_node.specs.Forgetting.{raised};
+    ghost use Rattle.ra_node.specs.View.{is_forgettable};
 
     /// Makes the slot of a resource that no client and no message was about yet. It does not allocate.
     pub fn new(alloc: Global, member: Member, name: Name, start: u64) -> Slot
@@ -133,8 +135,8 @@ impl Slot {
         self.client == Some(client) || self.queue.has(client)
     }
 
-    /// Returns whether the client may ask here, unless memory runs out, in expected constant time, or in time linear in the length of the
-    /// queue if there was no memory to know its clients.
+    /// Returns whether the client may ask here, unless memory runs out, in expected constant time, or in time linear
+    /// in the length of the queue if there was no memory to know its clients.
     ///
     /// # Errors
     ///
@@ -154,9 +156,9 @@ impl Slot {
         Ok(())
     }
 
-    /// Asks for a client: its request is made if nobody uses the resource, and otherwise the client queues. The cost of a
-    /// client that queues is constant, amortized and on average. It is linear in the length of the queue if there was no
-    /// memory to index its clients.
+    /// Asks for a client: its request is made if nobody uses the resource, and otherwise the client queues. The cost
+    /// of a client that queues is constant, amortized and on average. It is linear in the length of the queue if
+    /// there was no memory to index its clients.
     ///
     /// # Errors
     ///
@@ -253,9 +255,9 @@ impl Slot {
         Ok(())
     }
 
-    /// Leaves for the client that holds, by this request, and asks for `next`, the first of the queue, in one reaction: the
-    /// deferred REPLYs come first. A number must be left, and no client may be here twice. The messages are put into an
-    /// empty list, which the outcome gets, and the marks into the outcome.
+    /// Leaves for the client that holds, by this request, and asks for `next`, the first of the queue, in one
+    /// reaction: the deferred REPLYs come first. A number must be left, and no client may be here twice. The messages
+    /// are put into an empty list, which the outcome gets, and the marks into the outcome.
     ///
     /// # Errors
     ///
@@ -276,7 +278,8 @@ impl Slot {
         requires nothing { IsNothing outcome.old }
         requires marks { 3 ≤ outcome.old.marks.spare }
         ensures handed { MatchResult (answer_with result outcome.new)
-            (λ done. IsHandedOver self.old next done.sends.items (Left held.now ∷ []) done.marks.items self.new
+            (λ done. IsHandedOver (LeaveStep self.old.state) self.old next done.sends.items (Left held.now ∷ [])
+            done.marks.items self.new
             × IsConsistent self.new.state)
             (λ fault. (fault ≡ LeaveError.Memory) × (self.new ≡ self.old)) }
         ensures room { 2 * self.old.state.nodes ≤ sends.spare → IsOk result }
@@ -296,6 +299,116 @@ impl Slot {
         push_reserved(&mut outcome.marks, Mark::Left(*held));
         push_request(&mut outcome.marks, &requested, handed.entered);
         Ok(())
+    }
+
+    /// Gives up for a client that waits or is queued. If it waits, the next client asks in the same event. No client
+    /// may be here twice. What is sent and marked is put into an empty outcome, which is lent. It does not allocate
+    /// if that has room to leave.
+    ///
+    /// # Errors
+    ///
+    /// The first that holds, after which the resource is as before:
+    ///
+    /// 1. `NotWaiting`: the client neither waits nor is queued. The outcome is as before, with its room.
+    /// 2. `Memory`: memory ran out, and there was not room to leave. The outcome is empty.
+    pub fn cancel(
+        &mut self,
+        alloc: Global,
+        client: u32,
+        outcome: &mut Outcome,
+    ) -> Result<(), CancelError>
+        requires once { AllPairs (λ a b. a ≢ b) (clients_of self.old) }
+        requires nothing { IsNothing outcome.old }
+        requires consistent { IsConsistent self.old.state }
+        ensures cancelled { MatchResult (answer_with result outcome.new)
+            (λ done. CancelTurn self.old client done.sends.items done.marks.items self.new
+            × IsConsistent self.new.state)
+            (λ fault. IsCancelRefusal self.old client fault × (self.new ≡ self.old)) }
+        ensures room { HasRoomToLeave self.old.state.nodes outcome.old → IsErrOf result CancelError.Memory → ⊥ }
+        ensures kept { IsErrOf result CancelError.NotWaiting → outcome.new ≡ outcome.old }
+        ensures nothing { OnErr result (IsNothing outcome.new) }
+    {
+        let Some(waiting) = self.waited_by(client) else {
+            if self.queue.remove(client) {
+                return Ok(());
+            }
+            return Err(CancelError::NotWaiting);
+        };
+        // The marks of the request that the next client makes have room, too.
+        let Ok(()) = outcome.marks.reserve(3) else {
+            return Err(CancelError::Memory);
+        };
+        let sends = mem::replace(&mut outcome.sends, Messages::new(alloc));
+        if let Some(next) = self.next() {
+            return self.pass_on(alloc, &waiting, next, sends, outcome);
+        }
+        let Ok(reaction) = self.automaton.withdraw_into(alloc, sends) else {
+            // Only `Memory` can come if a client waits.
+            return Err(CancelError::Memory);
+        };
+        self.client = None;
+        outcome.sends = reaction.sends;
+        push_reserved(&mut outcome.marks, Mark::Withdrawn(waiting));
+        Ok(())
+    }
+
+    /// Withdraws the request of the client that waits, this one, and asks for `next`, the first of the queue, in one
+    /// reaction: the deferred REPLYs come first. A number must be left, and no client may be here twice. The messages
+    /// are put into an empty list, which the outcome gets, and the marks into the outcome.
+    ///
+    /// # Errors
+    ///
+    /// `Memory`, if the list has not room for two messages to each node: the resource and the outcome are as before.
+    fn pass_on(
+        &mut self,
+        alloc: Global,
+        waiting: &Entry,
+        next: Queued,
+        sends: Messages,
+        outcome: &mut Outcome,
+    ) -> Result<(), CancelError>
+        requires waits { IsWaitingPhase self.old.state.phase }
+        requires first { take 1 self.old.queue ≡ next ∷ [] }
+        requires number_left { self.old.state.highest < greatest_number }
+        requires once { AllPairs (λ a b. a ≢ b) (clients_of self.old) }
+        requires none { sends.items ≡ [] }
+        requires nothing { IsNothing outcome.old }
+        requires marks { 3 ≤ outcome.old.marks.spare }
+        ensures passed { MatchResult (answer_with result outcome.new)
+            (λ done. IsHandedOver (WithdrawStep self.old.state) self.old next done.sends.items (Withdrawn waiting.now ∷ [])
+            done.marks.items self.new
+            × IsConsistent self.new.state)
+            (λ fault. (fault ≡ CancelError.Memory) × (self.new ≡ self.old)) }
+        ensures room { 2 * self.old.state.nodes ≤ sends.spare → IsOk result }
+        ensures kept { OnErr result (outcome.new ≡ outcome.old) }
+    {
+        let requested = self.next_entry(next.client, next.mode);
+        let left = self
+            .automaton
+            .withdraw_and_request_into(alloc, next.mode, sends);
+        let Ok(passed) = left else {
+            // Only `Memory` can come if a client waits.
+            return Err(CancelError::Memory);
+        };
+        self.queue.pop_front();
+        self.client = Some(next.client);
+        outcome.sends = passed.sends;
+        push_reserved(&mut outcome.marks, Mark::Withdrawn(*waiting));
+        push_request(&mut outcome.marks, &requested, passed.entered);
+        Ok(())
+    }
+
+    /// Raises the highest number to this one, if it is lower. Returns whether anything else has to be kept.
+    pub fn raise(&mut self, number: u64) -> bool
+        ensures raised { self.new ≡ raised number self.old }
+        ensures kept { result ≡ not (is_forgettable self.old) }
+    {
+        let forgettable = self.automaton.phase() == Phase::Idle
+            && self.client.is_none()
+            && self.queue.len() == 0
+            && self.automaton.highest() < u64::MAX;
+        self.automaton.raise(number);
+        !forgettable
     }
 
     /// Takes a message for this node about this resource, which comes from another node.
@@ -372,7 +485,26 @@ impl Slot {
         }
     }
 
-    /// Returns the client that asks when the one that holds leaves, or `None`.
+    /// Returns whether a client waits or is queued here, in expected constant time, or in time linear in the length
+    /// of the queue if there was no memory to know its clients.
+    pub fn is_kept_waiting(&self, client: u32) -> bool
+        ensures { IsTrue result ↔ IsKeptWaiting self.now client }
+    {
+        self.waited_by(client).is_some() || self.queue.has(client)
+    }
+
+    /// Returns the request by which a client waits for the resource, or `None`.
+    fn waited_by(&self, client: u32) -> Option<Entry>
+        ensures waits { IfSome result (Waits self.now client) }
+        ensures waits_not { IsNone result ↔ ((entry : Entry) → Waits self.now client entry → ⊥) }
+    {
+        match self.waiter() {
+            Some(entry) if entry.client == client => Some(entry),
+            _ => None,
+        }
+    }
+
+    /// Returns the client that asks when the one that holds leaves, or the one that waits gives up, or `None`.
     fn next(&self) -> Option<Queued>
         ensures some { IfSome result (λ next.
             (take 1 self.now.queue ≡ next ∷ []) × (self.now.state.highest < greatest_number)) }

@@ -28,8 +28,8 @@ pub struct Openings<'a> {
 }
 
 impl<'a> Openings<'a> {
-    /// Returns the first lines of books before the line with this number, counted from 1, and the text from that line on. If the
-    /// text ends before, this is its last line.
+    /// Returns the first lines of books before the line with this number, counted from 1, and the text from that line
+    /// on. If the text ends before, this is its last line.
     pub fn before(text: &'a [u8], number: u64) -> (Openings<'a>, &'a [u8]) {
         let mut openings = Openings {
             first: None,

@@ -49,7 +49,8 @@ pub fn of_end(alloc: Global, text: Option<&[u8]>, sent: u128) -> Notice {
     }
 }
 
-/// Returns what there is to say about arguments that ask for nothing: why, or that memory ran out if it is not known why.
+/// Returns what there is to say about arguments that ask for nothing: why, or that memory ran out if it is not known
+/// why.
 pub fn of_command(alloc: Global, arguments: &[String], fault: Option<&UsageFault<'_>>) -> Notice {
     match fault {
         Some(fault) => usage_note(alloc, arguments, fault),

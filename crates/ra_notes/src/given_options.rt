@@ -11,7 +11,8 @@ fn is_option(argument: &str, name: &str) -> bool {
     }
 }
 
-/// Returns whether the arguments give the option of a name. The first argument is the program's name. It does not allocate.
+/// Returns whether the arguments give the option of a name. The first argument is the program's name. It does not
+/// allocate.
 pub fn is_given(arguments: &[String], name: &str) -> bool {
     for place in 1..arguments.len() {
         if is_option(arguments[place].as_str(), name) {

@@ -15,8 +15,8 @@ use ra_explain::{LineCause, Unanswered, digits_note, frame_note, line_note, unan
 use ra_frame::FrameError;
 use ra_schedule::{Policy, chance};
 use ra_script::PerformError;
-use ra_stamp::{Mark, Memory};
-use ra_trace::{Cause, MarkCause, check_buffered_with_due};
+use ra_stamp::Memory;
+use ra_trace::{Cause, Line, MarkCause, check_buffered_with_due};
 use std::alloc::Global;
 
 /// What is said of a place, or nothing, if there is nothing to say or no memory for it: then the cause alone is named.
@@ -39,8 +39,8 @@ pub fn script_notice(alloc: Global, script: Option<&[u8]>) -> Notice {
     placed(place, Notice::Text(UNEXPLAINED))
 }
 
-/// Returns what there is to say about a script that is not performed: where it is wrong, or which of the choices that are listed is,
-/// and otherwise why.
+/// Returns what there is to say about a script that is not performed: where it is wrong, or which of the choices that
+/// are listed is, and otherwise why.
 pub fn perform_notice(alloc: Global, source: &NoteSource<'_>, why: PerformError) -> Notice {
     match (source.asked, source.seen, why) {
         (_, script, PerformError::Script(_)) => script_notice(alloc, script),
@@ -59,8 +59,8 @@ pub fn perform_notice(alloc: Global, source: &NoteSource<'_>, why: PerformError)
     }
 }
 
-/// Returns what there is to say about a script that threads may not run, or did not bring to its end: which lock is out of order
-/// or is never given back, and otherwise why.
+/// Returns what there is to say about a script that threads may not run, or did not bring to its end: which lock is out
+/// of order or is never given back, and otherwise why.
 pub fn cluster_notice(alloc: Global, script: Option<&[u8]>, why: ClusterError) -> Notice {
     let place = match (script, why) {
         (Some(script), ClusterError::OutOfOrder | ClusterError::Unreleased) => {
@@ -127,12 +127,13 @@ pub fn unfinished_notice(alloc: Global, source: &NoteSource<'_>) -> Notice {
     placed(place, Notice::Text(UNEXPLAINED))
 }
 
-/// Returns why a line of a trace is wrong, with the mark that is due there. A text that was to be drawn is checked once
-/// more for that. If memory runs out for it, the mark is not known. Of a text that was checked, `due` is that mark.
-fn cause_in(alloc: Global, text: JudgedText<'_>, cause: Cause, due: Option<Mark>) -> LineCause {
+/// Returns why a line of a trace is wrong, with the line of the send or mark that is due there. A text that was to be
+/// drawn is checked once more for that. If memory runs out for it, the line is not known. Of a text that was checked,
+/// `due` is that line.
+fn cause_in(alloc: Global, text: JudgedText<'_>, cause: Cause, due: Option<Line>) -> LineCause {
     match (cause, text) {
-        (Cause::Marks, JudgedText::Checked(_)) => LineCause::Due(due),
-        (Cause::Marks, JudgedText::Drawn(text)) => {
+        (Cause::Sends | Cause::Marks, JudgedText::Checked(_)) => LineCause::Due(due),
+        (Cause::Sends | Cause::Marks, JudgedText::Drawn(text)) => {
             let (mut rest, mut due) = (text, None);
             match check_buffered_with_due(alloc, &mut rest, &mut due) {
                 Ok(_) => LineCause::Due(due),
@@ -160,14 +161,14 @@ fn line_notice(
     placed(place, Notice::Line { line, text: said })
 }
 
-/// Returns what there is to say about a text that is not a trace, by its first wrong line. If the line is wrong for its marks, `due` is
-/// the mark that is due there, if one is; of a text that was to be drawn it is looked for.
+/// Returns what there is to say about a text that is not a trace, by its first wrong line. If the line is wrong for its
+/// sends or its marks, `due` is the line that is due there, if one is; of a text that was to be drawn it is looked for.
 pub fn trace_notice(
     alloc: Global,
     text: JudgedText<'_>,
     line: u64,
     cause: Cause,
-    due: Option<Mark>,
+    due: Option<Line>,
 ) -> Notice {
     let why = cause_in(alloc, text, cause, due);
     line_notice(alloc, text, line, why, cause_text(cause))

@@ -4,7 +4,8 @@ use ra_book_text::TextCause;
 use ra_cluster::{ClusterError, Stop};
 use ra_trace::{Cause, MarkCause};
 
-/// What is said if an explanation finds no memory. It is also said if an explanation finds nothing, which it never does.
+/// What is said if an explanation finds no memory. It is also said if an explanation finds nothing, which it never
+/// does.
 pub const UNEXPLAINED: &str = "standard output says what came of it; no memory is left to say more";
 
 /// What is said if the reader failed.
@@ -34,7 +35,7 @@ pub const TOO_LONG: &str =
 
 /// What is said of the first line of a book if it is not one.
 pub const NO_BOOK: &str =
-    "not the first line of a book: expected book 1 NODE NODES START, with NODE 1 to NODES, NODES 1 to 64 and START 0 to 2^64 - 1, separated by single spaces and ended by a line feed alone";
+    "not the first line of a book: expected book 1 NODE NODES START, or book 2 in its place, with NODE 1 to NODES, NODES 1 to 64 and START 0 to 2^64 - 1, separated by single spaces and ended by a line feed alone";
 
 /// What is said if a run goes on for too long.
 pub const TOO_MANY_TURNS: &str =
@@ -50,15 +51,16 @@ pub const NO_SEED_DONE: &str = "no run finished: use --seed and --trace to see o
 /// What is said if the threads of a cluster did what no script and no lack of memory or threads lets them do.
 const DEFECT: &str = "the threads did not record one run of the whole script: this is a bug in ra";
 
-/// Returns what is said about threads that did not bring a script to its end. For the two conditions that are checked before
-/// threads start, the place in the script is explained.
+/// Returns what is said about threads that did not bring a script to its end. For the two conditions that are checked
+/// before threads start, the place in the script is explained.
 pub fn cluster_text(fault: ClusterError) -> &'static str {
     match fault {
         ClusterError::OutOfOrder | ClusterError::Unreleased => UNEXPLAINED,
-        // `run_cluster` does not tell which node was stopped. Memory and threads belong to the whole process, so it is chance which
-        // node runs out of them first.
+        // `run_cluster` does not tell which node was stopped. Memory and threads belong to the whole process, so it is
+        // chance which node runs out of them first.
         ClusterError::Fault(stop) => match stop {
-            // A node loses its inbox only after it was stopped or all clients are done, so a lack of memory is the first cause.
+            // A node loses its inbox only after it was stopped or all clients are done, so a lack of memory is the
+            // first cause.
             Stop::Memory | Stop::Send => "a node was stopped: out of memory",
             Stop::Spawn => {
                 "a node was stopped: cannot start a thread (each node and each client needs one)"
@@ -75,17 +77,18 @@ pub fn cluster_text(fault: ClusterError) -> &'static str {
 }
 
 /// What is said about the first wrong line of a text that is not a trace, in the order of `Cause`.
-const CAUSES: [&str; 5] = [
+const CAUSES: [&str; 6] = [
     "not a line that a trace may have here (see ra check --help); each line ends with a line feed alone, and the last line is end",
-    "the client may not ask or release here: the node does not exist, the client already waits, is queued or holds the name, it releases a name that it does not hold, or no number is left",
+    "the step may not come here: the node does not exist, the client already waits, is queued or holds the name, it releases a name that it does not hold or cancels one for which it does not wait, or no number is left",
     "this message is not under way: it was never sent, or was already delivered or lost",
+    "these are not the messages that the step sends: one is missing before this line, or this one does not belong here",
     "these are not the marks of the step: one is missing before this line, or this one does not belong here",
     "the lock table does not allow this mark: a conflicting request holds the name or came earlier, its own request does not wait or hold, its node already waits or holds, or its number is not above every number granted",
 ];
 
 /// What is said about the first wrong line of a log that is not a run of the lock table, in the order of `MarkCause`.
 const MARK_CAUSES: [&str; 7] = [
-    "not a mark: expected request, enter or leave and then NODE CLIENT NAME MODE SEQ, separated by single spaces and ended by a line feed alone",
+    "not a mark: expected request, enter, leave or withdraw and then NODE CLIENT NAME MODE SEQ, separated by single spaces and ended by a line feed alone",
     "the node of this request already waits for the name or holds it",
     "the number of this request is not above every number granted for the name",
     "no such request waits for the name",

@@ -12,8 +12,8 @@ use std::alloc::Global;
 pub struct ClientState {
     pub client: u32,
     pub name: Name,
-    /// How far it is, or `None` if it neither waits, nor is queued, nor holds. Of a client that waits, the line is that of its ask.
-    /// Lines are counted over the whole text.
+    /// How far it is, or `None` if it neither waits, nor is queued, nor holds. Of a client that waits, the line is that
+    /// of its ask. Lines are counted over the whole text.
     pub reached: Option<Reached>,
 }
 
@@ -30,6 +30,12 @@ impl ClientState {
                 since: line,
             });
         }
+        if let BookKind::Cancelled { client, name } = kind
+            && self.client == *client
+            && self.name == *name
+        {
+            self.reached = None;
+        }
         for mark in marks {
             let entry = mark.entry();
             if self.client == entry.client && self.name == entry.name {
@@ -43,7 +49,7 @@ impl ClientState {
                         since: line,
                         ..asked
                     }),
-                    // It left the name; no client gets a request that it has not asked for.
+                    // It left the name or gave up; no client gets a request that it has not asked for.
                     _ => None,
                 };
             }
@@ -51,8 +57,8 @@ impl ClientState {
     }
 }
 
-/// Gives a node the lines of its book up to the one with this number, and notes how far they bring a client. Returns why the node
-/// refuses one of them, or `None` if it takes them all.
+/// Gives a node the lines of its book up to the one with this number, and notes how far they bring a client. Returns
+/// why the node refuses one of them, or `None` if it takes them all.
 fn first_refusal(
     alloc: Global,
     node: &mut TimedNode,
@@ -82,9 +88,9 @@ fn first_refusal(
     None
 }
 
-/// Returns why the node of a book refuses the line with this number, after the lines of the book before it. If a client asks or
-/// leaves by the line, it also returns how far that client is before it. Returns `None` if there is no memory to tell. The cost is
-/// that of the lines at a node.
+/// Returns why the node of a book refuses the line with this number, after the lines of the book before it. If a client
+/// asks, leaves or gives up by the line, it also returns how far that client is before it. Returns `None` if there is
+/// no memory to tell. The cost is that of the lines at a node.
 pub fn refused_event(
     alloc: Global,
     opening: &Opening<'_>,
@@ -94,7 +100,11 @@ pub fn refused_event(
     let mut node = TimedNode::new(alloc, opening.member, opening.start);
     let mut state = match &event_of(line) {
         // Before the first line of the book, the client has not asked.
-        Ok(BookKind::Asked { client, name, .. } | BookKind::Gave { client, name }) => {
+        Ok(
+            BookKind::Asked { client, name, .. }
+            | BookKind::Gave { client, name }
+            | BookKind::Cancelled { client, name },
+        ) => {
             Some(ClientState {
                 client: *client,
                 name: *name,

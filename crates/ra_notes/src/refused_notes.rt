@@ -4,6 +4,7 @@ use ra_book::BookError;
 use ra_book_text::Refusal;
 use ra_explain::{
     Stage, push_digits_fault, push_exhausted, push_frame_fault, push_numbered, push_stage,
+    push_waits_not,
 };
 use ra_frame::Frame;
 use ra_stamp::Member;
@@ -12,11 +13,27 @@ use ra_text::Note;
 /// What comes before the digits of a frame.
 const RECEIVE: &[u8] = b"receive ";
 
-/// Adds why a client may not ask or leave at the line: how far it is and what is expected first, or that no number is left.
+/// Adds why a client may not give up at the line: it holds the name, or it does not wait.
+fn push_not_waiting(note: &mut Note, state: &ClientState) {
+    match state.reached {
+        Some(_) => {
+            push_stage(note, state.client, &state.name, None, state.reached);
+            note.push(" and does not wait for it: expected its release");
+        }
+        None => {
+            push_waits_not(note, state.client, &state.name, None);
+            note.push(": expected a client that does");
+        }
+    }
+}
+
+/// Adds why a client may not ask, leave or give up at the line: how far it is and what is expected first, or that no
+/// number is left.
 fn push_client(note: &mut Note, why: BookError, state: &ClientState) {
     let asks = match why {
         BookError::Busy => true,
         BookError::NotHeld => false,
+        BookError::NotWaiting => return push_not_waiting(note, state),
         _ => {
             push_exhausted(note, &state.name);
             return;
@@ -33,8 +50,8 @@ fn push_client(note: &mut Note, why: BookError, state: &ClientState) {
     });
 }
 
-/// Adds why the node of a book does not take a line, and what would be right. `frame` comes by the line, or a client asks or leaves
-/// by it, which is at `state`.
+/// Adds why the node of a book does not take a line, and what would be right. `frame` comes by the line, or a client
+/// asks, leaves or gives up by it, which is at `state`.
 pub fn push_refused(
     note: &mut Note,
     line: &[u8],

@@ -10,9 +10,9 @@ use ra_explain::{push_number_in, push_numbered};
 use ra_text::{Note, cut};
 use std::alloc::Global;
 
-/// Adds why the books with these first lines are not those of all nodes. If the wrong line begins another book, its node has a book
-/// already, or it has another number of nodes or another start. Otherwise the book of a node is missing. Returns whether it adds
-/// anything.
+/// Adds why the books with these first lines are not those of all nodes. If the wrong line begins another book, its
+/// node has a book already, or it has another number of nodes or another start. Otherwise the book of a node is
+/// missing. Returns whether it adds anything.
 fn push_books(note: &mut Note, openings: &Openings<'_>, another: &Option<FirstLine>) -> bool {
     let Some(opening) = &openings.first else {
         return false;
@@ -41,8 +41,8 @@ fn push_books(note: &mut Note, openings: &Openings<'_>, another: &Option<FirstLi
     false
 }
 
-/// Adds in which book a line is, and which frame comes by it, if one does. If the node of the book refuses the line, it adds why.
-/// Returns whether it adds why.
+/// Adds in which book a line is, and which frame comes by it, if one does. If the node of the book refuses the line, it
+/// adds why. Returns whether it adds why.
 fn push_event(
     alloc: Global,
     note: &mut Note,
@@ -62,6 +62,15 @@ fn push_event(
         push_numbered(note, ", a frame of node ", frame.message.from().get());
         push_numbered(note, " with clock ", frame.clock);
     }
+    if let TextCause::Line = cause
+        && let Some(opening) = &openings.last
+        && let Ok(BookKind::Cancelled { .. } | BookKind::Forgot) = event_of(line)
+    {
+        // Only the version of the book can be in the way of such a line.
+        push_numbered(note, ": the book begins at line ", opening.line);
+        note.push(" in version 1, which has no such event: expected book 2 there");
+        return true;
+    }
     if let TextCause::Refused = cause
         && let Some(opening) = &openings.last
         && let Some((why, state)) = refused_event(alloc, opening, line, number)
@@ -73,9 +82,9 @@ fn push_event(
     false
 }
 
-/// Returns the note on the wrong line of a text of books, the one with this number: its text, its book, its frame, and what would
-/// be right. The cost is linear in the text up to there. For a line that a node refuses, the node takes the lines of its book once
-/// more, which takes memory.
+/// Returns the note on the wrong line of a text of books, the one with this number: its text, its book, its frame, and
+/// what would be right. The cost is linear in the text up to there. For a line that a node refuses, the node takes the
+/// lines of its book once more, which takes memory.
 ///
 /// # Errors
 ///

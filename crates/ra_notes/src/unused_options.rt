@@ -23,8 +23,8 @@ fn policy_word(task: &Task<'_>) -> Option<&'static str> {
     }
 }
 
-/// Writes a line for each option of `sim` that is given for a task but has no effect. It does not allocate, and ignores a failure
-/// of the writer.
+/// Writes a line for each option of `sim` that is given for a task but has no effect. It does not allocate, and ignores
+/// a failure of the writer.
 pub fn write_unused_options<N: Write>(arguments: &[String], task: &Task<'_>, notes: &mut N) {
     let Some(policy) = policy_word(task) else {
         return;

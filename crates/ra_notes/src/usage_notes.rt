@@ -1,5 +1,5 @@
-//! What is said of arguments that are not a command line, on one line. The parser's error has a kind and a text, and nothing
-//! more: the option, the value and the nearest word are only in the text, so they are cut out of it.
+//! What is said of arguments that are not a command line, on one line. The parser's error has a kind and a text, and
+//! nothing more: the option, the value and the nearest word are only in the text, so they are cut out of it.
 use crate::given_options::is_given;
 use crate::notice::Notice;
 use clap::Error as ParseError;
@@ -9,8 +9,8 @@ use ra_schedule::read_choices;
 use ra_text::Note;
 use std::alloc::Global;
 
-/// Returns the option that takes a value and is followed by an argument that the parser takes for an option, though it is
-/// none, such as a negative number, and that argument, or `None`.
+/// Returns the option that takes a value and is followed by an argument that the parser takes for an option, though it
+/// is none, such as a negative number, and that argument, or `None`.
 fn no_option_in(arguments: &[String]) -> Option<(&str, &str)> {
     for place in 2..arguments.len() {
         let next = arguments[place].as_str();
@@ -142,8 +142,8 @@ fn push_parsed(alloc: Global, note: &mut Note, arguments: &[String], said: &str)
     }
 }
 
-/// Adds what the parser says about the arguments with its error. It stops for help, for which no argument asks, only at one
-/// that has `-h` or `-V` among others.
+/// Adds what the parser says about the arguments with its error. It stops for help, for which no argument asks, only at
+/// one that has `-h` or `-V` among others.
 fn push_error(alloc: Global, note: &mut Note, arguments: &[String], error: &ParseError) {
     if matches!(
         error.kind(),
@@ -199,7 +199,8 @@ fn push_wrong_value(note: &mut Note, cause: UsageCause, value: &str) {
     push_range(note, option, value);
 }
 
-/// Adds why arguments that the parser takes mean nothing, with the value that is wrong, if the cause is that of one option.
+/// Adds why arguments that the parser takes mean nothing, with the value that is wrong, if the cause is that of one
+/// option.
 fn push_cause(note: &mut Note, cause: UsageCause, value: Option<&str>) {
     if let Some(text) = cause_text(cause) {
         note.push(text);

@@ -11,31 +11,33 @@ use Rattle.ra_stamp.specs.NodeId.{IsNodeNumber}
 use Rattle.ra_automaton.specs.State.{IsOtherNode}
 use Rattle.ra_node.specs.Resource.{Resource, IsBusy}
 use Rattle.ra_node.specs.Node.{NodeState, opening_node, resource_at}
-use Rattle.ra_node.specs.Events.{Event, IsForThisNode}
-use Rattle.ra_node.specs.Events.Event.{Ask as AskedFor, Leave as GivenBack, Receive as Received}
+use Rattle.ra_node.specs.Events.{Event, IsNamed, name_of_event, IsForThisNode}
+use Rattle.ra_node.specs.Events.Event.{Ask as AskedFor, Leave as GivenBack, Cancel as GivenUp, Receive as Received, Forget as Forgot}
 use Rattle.ra_node.proofs.Lookups.{same_or_apart}
 use Rattle.ra_node.proofs.Updates.{received_turn}
 use Rattle.ra_world.specs.declared.step.Step.{Step}
-use Rattle.ra_world.specs.declared.step.Step.TheVariants.{Ask, Leave, Deliver, Lose, Repeat}
+use Rattle.ra_world.specs.declared.step.Step.TheVariants.{Ask, Leave, Cancel, Deliver, Lose, Repeat, Forget}
 use Rattle.ra_world.specs.Traffic.{Move}
 use Rattle.ra_world.specs.Run.{IsRun, IsFit, EndsWith, events_at}
 use Rattle.ra_world.proofs.Moves.{at_node, fits_split}
 use Rattle.ra_schedule.specs.LockOrder.{IsBelow}
 use Rattle.ra_schedule.specs.Orderly.{HoldsName, WaitsForName, IsInOrder, TakeNamesInOrder}
 use Rattle.ra_schedule.specs.BelowFinishing.{LawsOfNodes, LawsOfRuns}
-use Rattle.ra_schedule.proofs.ClientTurns.{HasIt, has_or_not, others_ask, leaver_gone, others_leave, all_receive}
+use Rattle.ra_schedule.proofs.ClientTurns.{HasIt, StaysBy, has_or_not, others_ask, leaver_gone, others_leave, canceller_gone, others_cancel, all_receive}
 use Rattle.ra_schedule.proofs.MovedNodes.{IsNode, Moved, moved, stays}
 use Rattle.ra_schedule.proofs.Standing.{Untouched}
-use Rattle.ra_schedule.proofs.StandingRuns.{IsThere, nobody_there, untouched, leads, elsewhere, each_then, ask_turn, leave_turn}
+use Rattle.ra_schedule.proofs.StandingRuns.{IsThere, nobody_there, untouched, forgot_untouched, leads, elsewhere, each_then, ask_turn, leave_turn, cancel_turn}
 
 -- ---- The names that were asked for
 
 abbrev name_asked : Step → List (List ℕ)
 name_asked (Ask node client name mode) = name ∷ []
 name_asked (Leave node client name) = []
+name_asked (Cancel node client name) = []
 name_asked (Deliver message) = []
 name_asked (Lose message) = []
 name_asked (Repeat message) = []
+name_asked (Forget node) = []
 
 abbrev pub names_asked : List Move → List (List ℕ)
 names_asked [] = []
@@ -124,7 +126,7 @@ module _ (nodes_laws : LawsOfNodes) (laws : LawsOfRuns) (n start : ℕ) (count :
             (subst (λ (k : ℕ). IsOtherNode p k (from_of message)) (sym there.nodes_is) between.1);
       } in
       by_nobody (each_then nodes_laws n old.nodes nodes' move p event went old.each for)
-      (λ client. untouched n client move.marks old.nodes nodes' p (name_of message) between.0 (elsewhere nodes_laws n old.nodes nodes' move p event went old.each)
+      (λ client. untouched n client move.marks old.nodes nodes' p (name_of message) between.0 (elsewhere nodes_laws n old.nodes nodes' move p event went old.each tt)
       (all_receive client (resource_at (old.nodes p) (name_of message)) message move.sends move.marks (resource_at (nodes' p) (name_of message))
       (received_turn (old.nodes p) (nodes' p) message move.sends move.marks went.happened) (leads nodes_laws n old.nodes nodes' move p event went old.each)))
 
@@ -197,7 +199,7 @@ module _ (nodes_laws : LawsOfNodes) (laws : LawsOfRuns) (n start : ℕ) (count :
       let went = moved nodes_laws n start moves move old.nodes nodes' old.ends run.ends.1 p event within here in
       let turn = ask_turn (old.nodes p) (nodes' p) client name mode move.sends move.marks went.happened in
       let lead = leads nodes_laws n old.nodes nodes' move p event went old.each in
-      let away = elsewhere nodes_laws n old.nodes nodes' move p event went old.each in
+      let away = elsewhere nodes_laws n old.nodes nodes' move p event went old.each tt in
       let s = old.nodes p in
       let was = resource_at s name in
       let is = resource_at (nodes' p) name in
@@ -212,22 +214,19 @@ module _ (nodes_laws : LawsOfNodes) (laws : LawsOfRuns) (n start : ℕ) (count :
       ])
       (λ r other. asker_above p client name r other ordered there)
 
-  leave : (p client : ℕ) (name : List ℕ) → IsNode n p → move.step ≡ Leave p client name → AllAscend n start (moves ++ move ∷ [])
-  leave p client name within step =
-      let event = GivenBack client name in
-      let here : events_at p move.step ≡ event ∷ [] = ap (events_at p) step ∙ at_node p event in
-      let went = moved nodes_laws n start moves move old.nodes nodes' old.ends run.ends.1 p event within here in
-      let turn = leave_turn (old.nodes p) (nodes' p) client name move.sends move.marks went.happened in
-      let lead = leads nodes_laws n old.nodes nodes' move p event went old.each in
-      let away = elsewhere nodes_laws n old.nodes nodes' move p event went old.each in
-      let was = resource_at (old.nodes p) name in
-      let is = resource_at (nodes' p) name in
-      let once = ((old.each p within).consistent.each name).once in
-      let gone = leaver_gone was client move.sends move.marks is once turn lead in
+  -- a client that is at the name no more, since it leaves or gives up
+  goes : (p client : ℕ) (event : Event) → Moved n old.nodes nodes' move p event → IsNamed event → IsForThisNode (old.nodes p) event
+      → (IsBusy (resource_at (nodes' p) (name_of_event event)) client → ⊥)
+      → ((c : ℕ) → client ≢ c → StaysBy c move.marks (resource_at (old.nodes p) (name_of_event event)) (resource_at (nodes' p) (name_of_event event)))
+      → AllAscend n start (moves ++ move ∷ [])
+  goes p client event went named for gone stays =
+      let name = name_of_event event in
+      let within = went.within in
+      let away = elsewhere nodes_laws n old.nodes nodes' move p event went old.each named in
       let there : (r : List ℕ) → IsBusy (resource_at (nodes' p) r) client → resource_at (nodes' p) r ≡ resource_at (old.nodes p) r = λ r busy.
       away p r within (λ _ same. gone (subst (λ (x : List ℕ). IsBusy (resource_at (nodes' p) x) client) same busy)) in
-      by_client p client event went (each_then nodes_laws n old.nodes nodes' move p event went old.each tt)
-      (λ c others. untouched n c move.marks old.nodes nodes' p name within away (others_leave was client move.sends move.marks is once turn lead c others))
+      by_client p client event went (each_then nodes_laws n old.nodes nodes' move p event went old.each for)
+      (λ c others. untouched n c move.marks old.nodes nodes' p name within away (stays c others))
       (λ r busy. still_known r (old.known p client r within (subst (λ (x : Resource). IsBusy x client) (there r busy) busy)))
       (λ r other waits busy apart.
       let e = there r waits.0 in
@@ -236,6 +235,38 @@ module _ (nodes_laws : LawsOfNodes) (laws : LawsOfRuns) (n start : ℕ) (count :
       (subst (λ (x : Resource). IsBusy x client) e waits.0, λ h. waits.1 (subst (λ (x : Resource). HasIt x client) (sym e) h))
       (subst (λ (x : Resource). IsBusy x client) f busy) apart in
       (subst (λ (x : Resource). HasIt x client) (sym f) was.0, was.1))
+
+  leave : (p client : ℕ) (name : List ℕ) → IsNode n p → move.step ≡ Leave p client name → AllAscend n start (moves ++ move ∷ [])
+  leave p client name within step =
+      let event = GivenBack client name in
+      let here : events_at p move.step ≡ event ∷ [] = ap (events_at p) step ∙ at_node p event in
+      let went = moved nodes_laws n start moves move old.nodes nodes' old.ends run.ends.1 p event within here in
+      let turn = leave_turn (old.nodes p) (nodes' p) client name move.sends move.marks went.happened in
+      let lead = leads nodes_laws n old.nodes nodes' move p event went old.each in
+      let was = resource_at (old.nodes p) name in
+      let is = resource_at (nodes' p) name in
+      let once = ((old.each p within).consistent.each name).once in
+      goes p client event went tt tt (leaver_gone was client move.sends move.marks is once turn lead) (others_leave was client move.sends move.marks is once turn lead)
+
+  cancel : (p client : ℕ) (name : List ℕ) → IsNode n p → move.step ≡ Cancel p client name → AllAscend n start (moves ++ move ∷ [])
+  cancel p client name within step =
+      let event = GivenUp client name in
+      let here : events_at p move.step ≡ event ∷ [] = ap (events_at p) step ∙ at_node p event in
+      let went = moved nodes_laws n start moves move old.nodes nodes' old.ends run.ends.1 p event within here in
+      let turn = cancel_turn (old.nodes p) (nodes' p) client name move.sends move.marks went.happened in
+      let lead = leads nodes_laws n old.nodes nodes' move p event went old.each in
+      let was = resource_at (old.nodes p) name in
+      let is = resource_at (nodes' p) name in
+      let once = ((old.each p within).consistent.each name).once in
+      goes p client event went tt tt (canceller_gone was client move.sends move.marks is once turn lead) (others_cancel was client move.sends move.marks is once turn lead)
+
+  -- to forget changes nothing of the clients
+  forget : (p : ℕ) → IsNode n p → move.step ≡ Forget p → AllAscend n start (moves ++ move ∷ [])
+  forget p within step =
+      let here : events_at p move.step ≡ Forgot ∷ [] = ap (events_at p) step ∙ at_node p Forgot in
+      let went = moved nodes_laws n start moves move old.nodes nodes' old.ends run.ends.1 p Forgot within here in
+      by_nobody (each_then nodes_laws n old.nodes nodes' move p Forgot went old.each tt)
+      (λ client. forgot_untouched n client move.sends move.marks old.nodes nodes' p went.others went.happened)
 
   -- ---- One more move
 
@@ -250,6 +281,8 @@ module _ (nodes_laws : LawsOfNodes) (laws : LawsOfRuns) (n start : ℕ) (count :
       → AllAscend n start (moves ++ move ∷ [])
   by_step (Ask node client name mode) is ordered = ask node client name mode (fits_as (Ask node client name mode) is) is (ordered node client name mode is)
   by_step (Leave node client name) is ordered = leave node client name (fits_as (Leave node client name) is) is
+  by_step (Cancel node client name) is ordered = cancel node client name (fits_as (Cancel node client name) is) is
+  by_step (Forget node) is ordered = forget node (fits_as (Forget node) is) is
   by_step (Deliver message) is ordered = deliver message (fits_as (Deliver message) is) is
   by_step (Lose message) is ordered = nothing_happens (λ i. ap (events_at i) is)
   by_step (Repeat message) is ordered = nothing_happens (λ i. ap (events_at i) is)

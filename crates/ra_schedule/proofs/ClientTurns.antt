@@ -3,20 +3,22 @@ use Rattle.std.proofs.Common.{◌≡◌, ◌≢◌, ◌⊎◌, ◌↔◌, ℕ, z
 use Rattle.std.specs.Prelude.{Contains, AllPairs, option_to_list}
 use Rattle.std.proofs.lemmas.Bool.{cases_eq}
 use Rattle.std.proofs.lemmas.List.{map-append}
-use Rattle.std.proofs.lemmas.List.Elements.{All-nil, All-cons, All-head, All-tail, Contains-push, Contains-push_cases, Contains-append_left}
+use Rattle.std.proofs.lemmas.List.Elements.{All-nil, All-cons, All-head, All-tail, Contains-push, Contains-push_cases, Contains-append_left, Contains-append_right, Contains-append_cases}
 use Rattle.ra_stamp.specs.declared.entry.Entry.{Entry}
 use Rattle.ra_stamp.specs.declared.entry.Mark.{Mark}
-use Rattle.ra_stamp.specs.declared.entry.Mark.TheVariants.{Requested, Entered, Left}
+use Rattle.ra_stamp.specs.declared.entry.Mark.TheVariants.{Requested, Entered, Left, Withdrawn}
 use Rattle.ra_stamp.specs.declared.message.Message.{Message}
 use Rattle.ra_stamp.specs.declared.mode.Mode.{Mode}
 use Rattle.ra_automaton.specs.declared.phase.Phase.{Phase}
 use Rattle.ra_automaton.specs.declared.phase.Phase.TheVariants.{Idle, Waiting, Inside}
 use Rattle.ra_automaton.specs.State.{State}
 use Rattle.ra_node.specs.declared.queued_client.Queued.{Queued}
-use Rattle.ra_node.specs.Resource.{Resource, Use, use_in, use_of, held_entry, Holds, IsBusy, clients_of, ClientFits, IsConsistentResource}
+use Rattle.ra_node.specs.Resource.{Resource, Use, use_in, use_of, held_entry, Holds, Waits, IsBusy, clients_of, ClientFits, IsConsistentResource}
 use Rattle.ra_node.specs.Resource.Use.{Nobody, WaitsBy, HoldsBy}
-use Rattle.ra_node.specs.Turns.{request_marks, AskTurn, LeaveTurn, Leaves, ReceiveTurn, EntersBy}
+use Rattle.ra_node.specs.Turns.{request_marks, AskTurn, EndTurn, Leaves, LeaveTurn, Withdraws, CancelTurn, ReceiveTurn, EntersBy}
 use Rattle.ra_node.specs.Carried.{MarksLead}
+use Rattle.ra_node.proofs.Endings.{AreEnded, leaves_ended, withdraws_ended}
+use Rattle.ra_node.proofs.Uses.{waiter_waits}
 use Rattle.ra_schedule.specs.Schedule.{Enters}
 
 -- the client holds here
@@ -106,6 +108,7 @@ NoneLeaves client [] = Unit {0}
 NoneLeaves client (Requested e ∷ marks) = NoneLeaves client marks
 NoneLeaves client (Entered e ∷ marks) = NoneLeaves client marks
 NoneLeaves client (Left e ∷ marks) = (e.client ≢ client) × NoneLeaves client marks
+NoneLeaves client (Withdrawn e ∷ marks) = NoneLeaves client marks
 
 -- one more mark in front
 more_silent : (c : ℕ) (mark : Mark) (marks : List Mark) → (Enters c mark → ⊥) → IsSilent c marks → IsSilent c (mark ∷ marks)
@@ -131,6 +134,9 @@ leads_to c (Requested e ∷ marks) u u' none leads =
 leads_to c (Left e ∷ marks) u u' none leads =
     passes c (Left e) marks u Nobody u' (λ enters. enters) (λ h. none.0 (one_holds e c (subst (λ (w : Use). HoldsIn w c) leads.0 h)))
     (nobody_holds c) (leads_to c marks Nobody u' none.1 leads.1)
+leads_to c (Withdrawn e ∷ marks) u u' none leads =
+    passes c (Withdrawn e) marks u Nobody u' (λ enters. enters) (λ h. none_waiting_holds e c (subst (λ (w : Use). HoldsIn w c) leads.0 h))
+    (nobody_holds c) (leads_to c marks Nobody u' none leads.1)
 leads_to c (Entered e ∷ marks) u u' none leads =
     let before : HoldsIn u c → ⊥ = λ h. none_waiting_holds e c (subst (λ (w : Use). HoldsIn w c) leads.0 h) in
     let rest = leads_to c marks (HoldsBy e) u' none leads.1 in
@@ -215,7 +221,7 @@ module _ (me nodes start : ℕ) (name : List ℕ) (old : Resource) (client : ℕ
     holds = holds_then c marks old new (ask_leaves_nobody c old client mode sends marks new turn) leads;
   }
 
--- ---- A client leaves
+-- ---- One goes from a list
 
 in_rest : (x : ℕ) (xs : List ℕ) (y : ℕ) → Contains (x ∷ xs) y → (x ≡ y) ⊎ Contains xs y
 in_rest x xs y (zero, within, is) = inl is
@@ -224,47 +230,139 @@ in_rest x xs y (suc k, within, is) = inr (k, omega arith, is)
 later : (x : ℕ) (xs : List ℕ) (y : ℕ) → Contains xs y → Contains (x ∷ xs) y
 later x xs y (k, within, is) = (suc k, omega arith, is)
 
-leaver_is : (old new : Resource) (client : ℕ) (entry : Entry) (sends : List Message) → Leaves old client entry sends new → old.client ≡ Some client
-leaver_is old new client entry sends leaves = holder_is old client (entry, leaves.holds)
+-- the others stay
+others_there : (front back : List ℕ) (x y : ℕ) → x ≢ y → Contains (front ++ x ∷ back) y ↔ Contains (front ++ back) y
+others_there front back x y apart = (
+  λ at. elim (Contains-append_cases front (x ∷ back) y at) [
+    | inl early ↦ Contains-append_left front back y early
+    | inr late ↦ elim (in_rest x back y late) [ inl same ↦ absurd (apart same) | inr rest ↦ Contains-append_right front back y rest ]
+  ],
+  λ at. elim (Contains-append_cases front back y at) [
+    | inl early ↦ Contains-append_left front (x ∷ back) y early
+    | inr late ↦ Contains-append_right front (x ∷ back) y (later x back y late)
+  ],
+)
 
-leaves_first : (old : Resource) (client : ℕ) (sends : List Message) (marks : List Mark) (new : Resource)
-    → LeaveTurn old client sends marks new → clients_of old ≡ client ∷ clients_of new
-leaves_first old client sends marks new turn = elim turn [
+-- and it is there no more, if it was there once
+gone_from : (front back : List ℕ) (x : ℕ) → AllPairs (λ a b. a ≢ b) (front ++ x ∷ back) → Contains (front ++ back) x → ⊥
+gone_from [] back x once (k, within, is) = once 0 (suc k) x (omega arith) (omega arith) (sym is)
+gone_from (y ∷ front) back x once at = elim (in_rest y (front ++ back) x at) [
+  | inl same ↦
+      let (k, within, is) = Contains-append_right front (x ∷ back) x (0, omega arith, refl) in
+      once 0 (suc k) x (omega arith) (omega (arith, within)) (same ∙ sym is)
+  | inr rest ↦ gone_from front back x (λ i j d before within. once (suc i) (suc j) d (omega (arith, before)) (omega (arith, within))) rest
+]
+
+-- ---- A client leaves, or gives up
+
+-- the request of the current client ends, and that client is there no more
+ends_first : (Ends : Entry → List Message → Resource → Type 0) (mark : Entry → Mark) (old : Resource) (client : ℕ) → AreEnded old Ends → old.client ≡ Some client
+    → (sends : List Message) (marks : List Mark) (new : Resource) → EndTurn Ends mark old sends marks new → clients_of old ≡ client ∷ clients_of new
+ends_first Ends mark old client ended current sends marks new turn = elim turn [
   | inl nobody ↦
-      same_clients old (Some client) old.queue (leaver_is old new client nobody.entry sends nobody.leaves) refl
-      ∙ ap (λ (xs : List ℕ). client ∷ xs) (sym (same_clients new None old.queue nobody.leaves.client_is nobody.leaves.queue_is))
+      let end = ended nobody.entry sends new nobody.ends in
+      same_clients old (Some client) old.queue current refl
+      ∙ ap (λ (xs : List ℕ). client ∷ xs) (sym (same_clients new None old.queue end.client_is end.queue_is))
   | inr next ↦
-      same_clients old (Some client) (next.next ∷ next.rest) (leaver_is old next.between client next.entry next.replies next.leaves) next.queue_was
+      same_clients old (Some client) (next.next ∷ next.rest) current next.queue_was
       ∙ ap (λ (xs : List ℕ). client ∷ xs) (sym (same_clients new (Some next.next.client) next.rest next.asks.client_is next.asks.queue_is))
+]
+
+-- no other client leaves by the marks
+end_leaves : (Ends : Entry → List Message → Resource → Type 0) (mark : Entry → Mark) (c : ℕ)
+    → ((entry : Entry) (sends : List Message) (r : Resource) (marks : List Mark) → Ends entry sends r → NoneLeaves c marks → NoneLeaves c (mark entry ∷ marks))
+    → (old : Resource) (sends : List Message) (marks : List Mark) (new : Resource) → EndTurn Ends mark old sends marks new → NoneLeaves c marks
+end_leaves Ends mark c more old sends marks new turn = elim turn [
+  | inl nobody ↦ subst (NoneLeaves c) (sym nobody.marks_are) (more nobody.entry sends new [] nobody.ends tt)
+  | inr next ↦ subst (NoneLeaves c) (sym next.marks_are)
+      (more next.entry next.replies next.between next.asked next.ends (subst (NoneLeaves c) (sym next.asks.marks_are) (requests_leave_nobody c next.asks.entered _)))
+]
+
+leaver_is : (old : Resource) (client : ℕ) (sends : List Message) (marks : List Mark) (new : Resource) → LeaveTurn old client sends marks new → old.client ≡ Some client
+leaver_is old client sends marks new turn = elim turn [
+  | inl nobody ↦ holder_is old client (nobody.entry, nobody.ends.holds)
+  | inr next ↦ holder_is old client (next.entry, next.ends.holds)
+]
+
+-- a client that waits is the current one
+waits_current : (r : Resource) (c : ℕ) (e : Entry) → Waits r c e → r.client ≡ Some c
+waits_current r c e waits = use_waiter r.state r.state.phase r.client e (waiter_waits r e waits.requested) ∙ ap (λ (k : ℕ). Some k) waits.client_is
+
+waiter_is : (old : Resource) (client : ℕ) (sends : List Message) (marks : List Mark) (new : Resource)
+    → EndTurn (Withdraws old client) Withdrawn old sends marks new → old.client ≡ Some client
+waiter_is old client sends marks new turn = elim turn [
+  | inl nobody ↦ waits_current old client nobody.entry nobody.ends.waits
+  | inr next ↦ waits_current old client next.entry next.ends.waits
+]
+
+-- the list of the clients before it and after it, when it is taken out
+abbrev IsTakenOut : Resource → ℕ → Resource → Type 0
+IsTakenOut old client new = (front : List ℕ) × (back : List ℕ) × (clients_of old ≡ front ++ client ∷ back) × (clients_of new ≡ front ++ back)
+
+leaver_out : (old : Resource) (client : ℕ) (sends : List Message) (marks : List Mark) (new : Resource) → LeaveTurn old client sends marks new → IsTakenOut old client new
+leaver_out old client sends marks new turn =
+    ([], clients_of new, ends_first (Leaves old client) Left old client (leaves_ended old client) (leaver_is old client sends marks new turn) sends marks new turn, refl)
+
+canceller_out : (old : Resource) (client : ℕ) (sends : List Message) (marks : List Mark) (new : Resource) → CancelTurn old client sends marks new → IsTakenOut old client new
+canceller_out old client sends marks new turn = elim turn [
+  | inl goes ↦
+      let first = option_to_list old.client in
+      let parts = λ (qs : List Queued). ap (λ (xs : List ℕ). first ++ xs) (map-append (λ (q : Queued). q.client) goes.before qs)
+      ∙ sym (append_assoc first (map (λ (q : Queued). q.client) goes.before) (map (λ (q : Queued). q.client) qs)) in
+      let front = first ++ map (λ (q : Queued). q.client) goes.before in (
+        front,
+        map (λ (q : Queued). q.client) goes.after,
+        same_clients old old.client (goes.before ++ goes.gone ∷ goes.after) refl goes.queue_was ∙ parts (goes.gone ∷ goes.after)
+            ∙ ap (λ (k : ℕ). front ++ k ∷ map (λ (q : Queued). q.client) goes.after) goes.client_is,
+        ap clients_of goes.new_is ∙ parts goes.after,
+      )
+  | inr ends ↦ ([], clients_of new, ends_first (Withdraws old client) Withdrawn old client (withdraws_ended old client) (waiter_is old client sends marks new ends) sends marks new ends, refl)
 ]
 
 leave_leaves : (c : ℕ) (old : Resource) (client : ℕ) (sends : List Message) (marks : List Mark) (new : Resource)
     → client ≢ c → LeaveTurn old client sends marks new → NoneLeaves c marks
-leave_leaves c old client sends marks new apart turn = elim turn [
-  | inl nobody ↦ subst (NoneLeaves c) (sym nobody.marks_are) (λ e. apart (sym nobody.leaves.holds.client_is ∙ e), tt)
-  | inr next ↦ subst (NoneLeaves c) (sym next.marks_are)
-      (λ e. apart (sym next.leaves.holds.client_is ∙ e), subst (NoneLeaves c) (sym next.asks.marks_are) (requests_leave_nobody c next.asks.entered _))
+leave_leaves c old client sends marks new apart turn =
+    end_leaves (Leaves old client) Left c (λ e ms r more leaves rest. (λ is. apart (sym leaves.holds.client_is ∙ is), rest)) old sends marks new turn
+
+cancel_leaves : (c : ℕ) (old : Resource) (client : ℕ) (sends : List Message) (marks : List Mark) (new : Resource) → CancelTurn old client sends marks new → NoneLeaves c marks
+cancel_leaves c old client sends marks new turn = elim turn [
+  | inl goes ↦ subst (NoneLeaves c) (sym goes.marks_are) tt
+  | inr ends ↦ end_leaves (Withdraws old client) Withdrawn c (λ e ms r more withdraws rest. rest) old sends marks new ends
 ]
+
+-- it is there no more
+out_gone : (old new : Resource) (client : ℕ) → AllPairs (λ a b. a ≢ b) (clients_of old) → IsTakenOut old client new → IsBusy new client → ⊥
+out_gone old new client once (front, back, was, is) busy =
+    gone_from front back client (subst (AllPairs (λ a b. a ≢ b)) was once) (subst (λ (xs : List ℕ). Contains xs client) is busy)
+
+-- and each other client stays
+others_out : (old new : Resource) (client : ℕ) (marks : List Mark) → IsTakenOut old client new → MarksLead (use_of old) marks (use_of new)
+    → (c : ℕ) → client ≢ c → NoneLeaves c marks → StaysBy c marks old new
+others_out old new client marks (front, back, was, is) leads c apart none =
+    let there = others_there front back client c apart in
+    record {
+      stands = (
+        λ h. subst (λ (xs : List ℕ). Contains xs c) (sym is) (there.0 (subst (λ (xs : List ℕ). Contains xs c) was h)),
+        λ h. subst (λ (xs : List ℕ). Contains xs c) (sym was) (there.1 (subst (λ (xs : List ℕ). Contains xs c) is h)),
+      );
+      holds = holds_then c marks old new none leads;
+    }
 
 module _ (old : Resource) (client : ℕ) (sends : List Message) (marks : List Mark) (new : Resource)
     (once : AllPairs (λ a b. a ≢ b) (clients_of old)) (turn : LeaveTurn old client sends marks new) (leads : MarksLead (use_of old) marks (use_of new)) where
-  -- it is there no more
   pub leaver_gone : IsBusy new client → ⊥
-  leaver_gone (k, within, is) =
-      let all : AllPairs (λ a b. a ≢ b) (client ∷ clients_of new) = subst (AllPairs (λ a b. a ≢ b)) (leaves_first old client sends marks new turn) once in
-      all 0 (suc k) client (omega arith) (omega arith) (sym is)
+  leaver_gone = out_gone old new client once (leaver_out old client sends marks new turn)
 
   pub others_leave : (c : ℕ) → client ≢ c → StaysBy c marks old new
-  others_leave c apart = record {
-    stands = (
-      λ h. elim (in_rest client (clients_of new) c (subst (λ (xs : List ℕ). Contains xs c) (leaves_first old client sends marks new turn) h)) [
-        | inl same ↦ absurd (apart same)
-        | inr rest ↦ rest
-      ],
-      λ h. subst (λ (xs : List ℕ). Contains xs c) (sym (leaves_first old client sends marks new turn)) (later client (clients_of new) c h),
-    );
-    holds = holds_then c marks old new (leave_leaves c old client sends marks new apart turn) leads;
-  }
+  others_leave c apart = others_out old new client marks (leaver_out old client sends marks new turn) leads c apart (leave_leaves c old client sends marks new apart turn)
+
+module _ (old : Resource) (client : ℕ) (sends : List Message) (marks : List Mark) (new : Resource)
+    (once : AllPairs (λ a b. a ≢ b) (clients_of old)) (turn : CancelTurn old client sends marks new) (leads : MarksLead (use_of old) marks (use_of new)) where
+  pub canceller_gone : IsBusy new client → ⊥
+  canceller_gone = out_gone old new client once (canceller_out old client sends marks new turn)
+
+  pub others_cancel : (c : ℕ) → client ≢ c → StaysBy c marks old new
+  others_cancel c apart = others_out old new client marks (canceller_out old client sends marks new turn) leads c apart (cancel_leaves c old client sends marks new turn)
 
 -- ---- A message comes
 

@@ -5,7 +5,7 @@ use Rattle.std.proofs.lemmas.Bool.{ne_eqb}
 use Rattle.ra_stamp.specs.NodeId.{IsNodeNumber}
 use Rattle.ra_stamp.specs.Message.{to_of}
 use Rattle.ra_world.specs.declared.step.Step.{Step}
-use Rattle.ra_world.specs.declared.step.Step.TheVariants.{Ask, Leave, Deliver, Lose, Repeat}
+use Rattle.ra_world.specs.declared.step.Step.TheVariants.{Ask, Leave, Cancel, Deliver, Lose, Repeat, Forget}
 use Rattle.ra_world.specs.Traffic.{Move}
 use Rattle.ra_world.specs.Run.{IsRun, GoesOn, events_at}
 use Rattle.ra_world.proofs.Moves.{not_at}
@@ -25,9 +25,11 @@ use Rattle.ra_schedule.proofs.Waiting.{steps_by-more, waits_on, waited}
 quiet : (step : Step) (i : ℕ) → node_at step ≢ Some i → events_at i step ≡ []
 quiet (Ask node client name mode) i apart = not_at node i _ (λ e. apart (ap (λ (k : ℕ). Some k) (sym e)))
 quiet (Leave node client name) i apart = not_at node i _ (λ e. apart (ap (λ (k : ℕ). Some k) (sym e)))
+quiet (Cancel node client name) i apart = not_at node i _ (λ e. apart (ap (λ (k : ℕ). Some k) (sym e)))
 quiet (Deliver message) i apart = not_at (to_of message) i _ (λ e. apart (ap (λ (k : ℕ). Some k) (sym e)))
 quiet (Lose message) i apart = refl
 quiet (Repeat message) i apart = refl
+quiet (Forget node) i apart = not_at node i _ (λ e. apart (ap (λ (k : ℕ). Some k) (sym e)))
 
 op_stays : LawsBelow → (n : ℕ) (moves : List Move) (move : Move) → IsNodeNumber n → IsRun n 0 (moves ++ move ∷ []) → (node client : ℕ) (op : Op)
     → events_at node move.step ≡ [] → GoesOn n 0 moves (step_of node client op) ↔ GoesOn n 0 (moves ++ move ∷ []) (step_of node client op)

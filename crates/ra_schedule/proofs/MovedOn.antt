@@ -1,14 +1,14 @@
 -- A client that moves on by one operation.
-use Rattle.std.proofs.Common.{◌≡◌, ◌≢◌, ◌⊎◌, ◌<◌, ◌≤◌, ◌+◌, ◌-◌, ◌||◌, ℕ, Bool, true, false, List, length, get_or, set, refl, sym, ap, subst, ◌∙◌, arith, inl, inr}
+use Rattle.std.proofs.Common.{◌≡◌, ◌≢◌, ◌<◌, ◌≤◌, ◌+◌, ◌-◌, ◌||◌, ℕ, Bool, true, false, List, length, get_or, set, refl, sym, ap, subst, ◌∙◌, arith, inl, inr}
 use Rattle.std.proofs.lemmas.Bool.{cases_eq, eq-eqb, ne_eqb}
 use Rattle.std.proofs.lemmas.List.{get_or-set_other, get_or_default}
 use Rattle.std.proofs.lemmas.Grind.{get_or-set_at}
 use Rattle.ra_stamp.specs.declared.mode.Mode.{Mode}
 use Rattle.ra_world.specs.declared.step.Step.{Step}
-use Rattle.ra_world.specs.declared.step.Step.TheVariants.{Ask, Leave, Deliver, Lose, Repeat}
-use Rattle.ra_stamp.specs.declared.message.Message.{Message as Sent}
+use Rattle.ra_world.specs.declared.step.Step.TheVariants.{Ask, Leave, Cancel, Deliver, Lose, Repeat, Forget}
 use Rattle.ra_schedule.specs.declared.driver.client_progress.Progress.{Progress}
 use Rattle.ra_schedule.specs.Progress.{IsAfterStep}
+use Rattle.ra_schedule.specs.Schedule.{steps_in, Asks}
 
 pub others_kept : (list : List Progress) (client k : ℕ) (d new : Progress) → 1 ≤ client → k + 1 ≢ client → get_or (set list (client - 1) new) k d ≡ get_or list k d
 others_kept list client k d new first other = get_or-set_other list (client - 1) k new d (λ e. other (omega (arith, first, e)))
@@ -82,16 +82,27 @@ after_leave step node leaver name client old new is others this =
           })
     ])
 
--- after a step of nobody
-pub after_message : (step : Step) (client : ℕ) (old new : Progress)
-    → ((message : Sent) × (step ≡ Deliver message)) ⊎ (((message : Sent) × (step ≡ Lose message)) ⊎ ((message : Sent) × (step ≡ Repeat message)))
-    → new ≡ old → IsAfterStep client step old new
-after_message step client old new (inl (message, is)) same =
-    subst (λ (s : Step). IsAfterStep client s old new) (sym is) (subst (IsAfterStep client (Deliver message) old) (sym same)
-    (record { done = omega arith; waiting = (λ waits. inr waits, λ either. elim either [ inl asks ↦ absurd asks | inr waits ↦ waits ]) }))
-after_message step client old new (inr (inl (message, is))) same =
-    subst (λ (s : Step). IsAfterStep client s old new) (sym is) (subst (IsAfterStep client (Lose message) old) (sym same)
-    (record { done = omega arith; waiting = (λ waits. inr waits, λ either. elim either [ inl asks ↦ absurd asks | inr waits ↦ waits ]) }))
-after_message step client old new (inr (inr (message, is))) same =
-    subst (λ (s : Step). IsAfterStep client s old new) (sym is) (subst (IsAfterStep client (Repeat message) old) (sym same)
-    (record { done = omega arith; waiting = (λ waits. inr waits, λ either. elim either [ inl asks ↦ absurd asks | inr waits ↦ waits ]) }))
+-- after a step that does no operation of a client
+pub after_another : (step : Step) (client : ℕ) (old new : Progress) → steps_in client step ≡ 0 → (Asks client step → ⊥) → new ≡ old → IsAfterStep client step old new
+after_another step client old new none not_asks same =
+    subst (IsAfterStep client step old) (sym same)
+    (record { done = omega (arith, none); waiting = (λ waits. inr waits, λ either. elim either [ inl asks ↦ absurd (not_asks asks) | inr waits ↦ waits ]) })
+
+-- the step is none of a client that asks or leaves
+abbrev pub IsOfNobody : Step → Type 0
+IsOfNobody (Ask node client name mode) = ⊥
+IsOfNobody (Leave node client name) = ⊥
+IsOfNobody (Cancel node client name) = Unit {0}
+IsOfNobody (Deliver message) = Unit {0}
+IsOfNobody (Lose message) = Unit {0}
+IsOfNobody (Repeat message) = Unit {0}
+IsOfNobody (Forget node) = Unit {0}
+
+pub after_nobody : (step : Step) (client : ℕ) (old new : Progress) → IsOfNobody step → new ≡ old → IsAfterStep client step old new
+after_nobody (Ask node asker name mode) client old new nobody same = absurd nobody
+after_nobody (Leave node leaver name) client old new nobody same = absurd nobody
+after_nobody (Cancel node waiter name) client old new nobody same = after_another (Cancel node waiter name) client old new refl (λ asks. asks) same
+after_nobody (Deliver message) client old new nobody same = after_another (Deliver message) client old new refl (λ asks. asks) same
+after_nobody (Lose message) client old new nobody same = after_another (Lose message) client old new refl (λ asks. asks) same
+after_nobody (Repeat message) client old new nobody same = after_another (Repeat message) client old new refl (λ asks. asks) same
+after_nobody (Forget node) client old new nobody same = after_another (Forget node) client old new refl (λ asks. asks) same

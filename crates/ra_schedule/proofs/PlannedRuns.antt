@@ -12,7 +12,7 @@ use Rattle.ra_node.specs.declared.queued_client.Queued.{Queued}
 use Rattle.ra_node.specs.Resource.{Resource, use_of, IsBusy}
 use Rattle.ra_node.specs.Resource.Use.{WaitsBy}
 use Rattle.ra_node.specs.Node.{NodeState, opening_node, resource_at}
-use Rattle.ra_node.specs.Events.{Event, name_of_event}
+use Rattle.ra_node.specs.Events.{Event, IsNamed, name_of_event}
 use Rattle.ra_node.specs.Events.Event.{Ask as AskedFor, Leave as GivenBack, Receive as Received}
 use Rattle.ra_node.proofs.Updates.{received_turn}
 use Rattle.ra_table.specs.Table.{LockTable, TableRun}
@@ -95,7 +95,7 @@ module _ (nodes_laws : LawsOfNodes) (laws : LawsOfRuns) (script : ScriptState) (
       (did_is n moves old.nodes client who (old.clients client who at_it)
       ∙ ap (λ (k : ℕ). take k who.ops) (let more = steps_by-more client moves move in omega (arith, more, none))) there
 
-  module _ (p : ℕ) (event : Event) (at : IsNode n p) (is_at : events_at p move.step ≡ event ∷ []) where
+  module _ (p : ℕ) (event : Event) (named : IsNamed event) (at : IsNode n p) (is_at : events_at p move.step ≡ event ∷ []) where
     abbrev r : List ℕ
     r = name_of_event event
 
@@ -106,7 +106,7 @@ module _ (nodes_laws : LawsOfNodes) (laws : LawsOfRuns) (script : ScriptState) (
     is = resource_at (new.nodes p) r
 
     other_resources : (i : ℕ) (name : List ℕ) → IsNode n i → (i ≡ p → name ≡ r → ⊥) → resource_at (new.nodes i) name ≡ resource_at (old.nodes i) name
-    other_resources = elsewhere nodes_laws n old.nodes new.nodes move p event (moved nodes_laws n 0 moves move old.nodes new.nodes old.ends new.ends p event at is_at) old.each
+    other_resources = elsewhere nodes_laws n old.nodes new.nodes move p event (moved nodes_laws n 0 moves move old.nodes new.nodes old.ends new.ends p event at is_at) old.each named
 
     -- a client that takes no part
     by_another : (client : ℕ) (who : ScriptClient) (at_it : client_at script client ≡ Some who) → steps_in client move.step ≡ 0 → (Asks client move.step → ⊥)
@@ -190,7 +190,7 @@ module _ (nodes_laws : LawsOfNodes) (laws : LawsOfRuns) (script : ScriptState) (
       let event = Received message in
       let here : events_at p move.step ≡ event ∷ [] = ap (events_at p) step ∙ at_node p event in
       let went = moved nodes_laws n 0 moves move old.nodes new.nodes old.ends new.ends p event at here in
-      nobody_takes_part p event at here (λ client. ap (steps_in client) step) (λ client asks. subst (Asks client) step asks)
+      nobody_takes_part p event tt at here (λ client. ap (steps_in client) step) (λ client asks. subst (Asks client) step asks)
       (λ client. all_receive client (resource_at (old.nodes p) (name_of message)) message move.sends move.marks (resource_at (new.nodes p) (name_of message))
       (received_turn (old.nodes p) (new.nodes p) message move.sends move.marks went.happened) (leads nodes_laws n old.nodes new.nodes move p event went old.each))
 
@@ -208,7 +208,7 @@ module _ (nodes_laws : LawsOfNodes) (laws : LawsOfRuns) (script : ScriptState) (
       let is = resource_at (new.nodes p) name in
       let stands = old.clients client who at_it in
       let follows = is_free n moves move old.nodes new.nodes client who at stands old.each new.each (as_stood client who at_it) free in
-      one_takes_part p event at here client who (Lock name mode) at_it step its
+      one_takes_part p event tt at here client who (Lock name mode) at_it step its
       (λ other apart. inl (others_ask other client was mode move.sends move.marks is apart turn))
       (elim (asker client was mode move.sends move.marks is turn lead) [
         | inl queued ↦ inr (
@@ -235,7 +235,7 @@ module _ (nodes_laws : LawsOfNodes) (laws : LawsOfRuns) (script : ScriptState) (
       let stands = old.clients client who at_it in
       let follows = is_free n moves move old.nodes new.nodes client who at stands old.each new.each (as_stood client who at_it) free in
       let (e, holds, marks_are) = leaver client was move.sends move.marks is ((old.each p at).consistent.each name).once turn lead in
-      one_takes_part p event at here client who (Unlock name) at_it step its
+      one_takes_part p event tt at here client who (Unlock name) at_it step its
       (λ other apart. others_leave other client was move.sends move.marks is apart turn lead)
       (inl (
         subst (FollowsOps p (stands.did ++ Unlock name ∷ [])) (sym (own_more client moves move ∙ ap (λ (ms : List Mark). own_marks client moves ++ ms) marks_are))

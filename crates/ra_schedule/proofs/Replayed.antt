@@ -5,7 +5,7 @@ use Rattle.std.proofs.lemmas.List as lists
 use Rattle.ra_stamp.specs.Sequence.{Listed as Listing}
 use Rattle.ra_stamp.specs.declared.message.Message.{Message as Sent}
 use Rattle.ra_world.specs.declared.step.Step.{Step}
-use Rattle.ra_world.specs.declared.step.Step.TheVariants.{Ask, Leave, Deliver, Lose, Repeat}
+use Rattle.ra_world.specs.declared.step.Step.TheVariants.{Ask, Leave, Cancel, Deliver, Lose, Repeat, Forget}
 use Rattle.ra_world.specs.Traffic.{Move, LeavesUnderWay}
 use Rattle.ra_world.specs.World.{WorldState}
 use Rattle.ra_world.specs.Run.{IsRun}
@@ -66,6 +66,8 @@ first_is_one moves message a b (at, first) (at', first') =
 for_is_one : (moves : List Move) (step : Step) (a b : Choice) → IsFor moves step a → IsFor moves step b → a ≡ b
 for_is_one moves (Ask node client name mode) a b is is' = is ∙ sym is'
 for_is_one moves (Leave node client name) a b is is' = is ∙ sym is'
+for_is_one moves (Cancel node client name) a b is is' = absurd is
+for_is_one moves (Forget node) a b is is' = absurd is
 for_is_one moves (Deliver message) a b (place, is, first) (place', is', first') =
     is ∙ ap Message (first_is_one moves message place place' first first') ∙ sym is'
 for_is_one moves (Lose message) a b (place, is, first) (place', is', first') =
@@ -77,6 +79,8 @@ for_is_one moves (Repeat message) a b (place, is, first) (place', is', first') =
 abbrev pub Takes : Step → Sent → Type 0
 Takes (Ask node client name mode) message = ⊥
 Takes (Leave node client name) message = ⊥
+Takes (Cancel node client name) message = ⊥
+Takes (Forget node) message = ⊥
 Takes (Deliver taken) message = taken ≡ message
 Takes (Lose taken) message = taken ≡ message
 Takes (Repeat taken) message = taken ≡ message
@@ -91,6 +95,8 @@ takes_one step taken message (inr (inr is)) same = subst (λ (s : Step). Takes s
 abbrev pub taken_at : Step → ℕ → Choice
 taken_at (Ask node client name mode) place = Message place
 taken_at (Leave node client name) place = Message place
+taken_at (Cancel node client name) place = Message place
+taken_at (Forget node) place = Message place
 taken_at (Deliver taken) place = Message place
 taken_at (Lose taken) place = Lost place
 taken_at (Repeat taken) place = Repeated place
@@ -100,6 +106,8 @@ pub none_for : (moves : List Move) (step : Step) (message : Sent) (choice : Choi
     → Takes step message → IsFor moves step choice → ⊥
 none_for moves (Ask node client name mode) message choice none takes stands = takes
 none_for moves (Leave node client name) message choice none takes stands = takes
+none_for moves (Cancel node client name) message choice none takes stands = takes
+none_for moves (Forget node) message choice none takes stands = takes
 none_for moves (Deliver taken) message choice none takes (place, same, first) = none place (subst (λ (m : Sent). IsAlikeAt moves m place) takes first.0)
 none_for moves (Lose taken) message choice none takes (place, same, first) = none place (subst (λ (m : Sent). IsAlikeAt moves m place) takes first.0)
 none_for moves (Repeat taken) message choice none takes (place, same, first) = none place (subst (λ (m : Sent). IsAlikeAt moves m place) takes first.0)
@@ -109,6 +117,8 @@ pub first_for : (moves : List Move) (step : Step) (message : Sent) (place : ℕ)
     → choice ≡ taken_at step place → IsFor moves step choice
 first_for moves (Ask node client name mode) message place choice takes first is = absurd takes
 first_for moves (Leave node client name) message place choice takes first is = absurd takes
+first_for moves (Cancel node client name) message place choice takes first is = absurd takes
+first_for moves (Forget node) message place choice takes first is = absurd takes
 first_for moves (Deliver taken) message place choice takes first is = (place, is, subst (λ (m : Sent). IsFirstAlike moves m place) (sym takes) first)
 first_for moves (Lose taken) message place choice takes first is = (place, is, subst (λ (m : Sent). IsFirstAlike moves m place) (sym takes) first)
 first_for moves (Repeat taken) message place choice takes first is = (place, is, subst (λ (m : Sent). IsFirstAlike moves m place) (sym takes) first)
@@ -118,6 +128,8 @@ pub is_delivered : (step : Step) (place : ℕ) → ((message : Sent) → step �
     → Message place ≡ taken_at step place
 is_delivered (Ask node client name mode) place not_lost not_repeated = refl
 is_delivered (Leave node client name) place not_lost not_repeated = refl
+is_delivered (Cancel node client name) place not_lost not_repeated = refl
+is_delivered (Forget node) place not_lost not_repeated = refl
 is_delivered (Deliver message) place not_lost not_repeated = refl
 is_delivered (Lose message) place not_lost not_repeated = absurd (not_lost message refl)
 is_delivered (Repeat message) place not_lost not_repeated = absurd (not_repeated message refl)

@@ -58,5 +58,6 @@ endings_rest_on_runs = record {
   highest = λ n start moves nodes i name count run ends low high. numbers_at_most laws_below n start moves count run nodes ends i name (low, high);
   a_list = something_under_way laws_below;
   sent = λ n start moves count run. sends_at_most laws_below n start moves count run;
-  asks = λ n start moves nodes count run. asks_counted laws_below n start count moves run nodes;
+  asks = λ n start moves nodes count run. (asks_counted laws_below n start count moves run).made nodes;
+  withdrawn = λ n start moves count run. (asks_counted laws_below n start count moves run).few;
 }

@@ -6,7 +6,7 @@ use Rattle.std.proofs.lemmas.List as lists
 use Rattle.ra_stamp.specs.Sequence.{Listed as Listing}
 use Rattle.ra_stamp.specs.declared.message.Message.{Message as Sent}
 use Rattle.ra_world.specs.declared.step.Step.{Step}
-use Rattle.ra_world.specs.declared.step.Step.TheVariants.{Ask, Leave, Deliver, Lose, Repeat}
+use Rattle.ra_world.specs.declared.step.Step.TheVariants.{Ask, Leave, Cancel, Deliver, Lose, Repeat, Forget}
 use Rattle.ra_world.specs.Traffic.{Move, repeated_in, repeated_by}
 use Rattle.ra_world.specs.World.{WorldState}
 use Rattle.ra_schedule.specs.declared.choice.Choice.{Choice}
@@ -100,6 +100,8 @@ one_move move none = ap (λ (ms : List Sent). ms ++ []) none
 for_no_repeat : (moves : List Move) (step : Step) (choice : Choice) → repeated_in step ≡ [] → IsFor moves step choice → IsNoRepeat choice
 for_no_repeat moves (Ask node client name mode) choice none is place e = absurd cc
 for_no_repeat moves (Leave node client name) choice none is place e = absurd cc
+for_no_repeat moves (Cancel node client name) choice none is place e = is
+for_no_repeat moves (Forget node) choice none is place e = is
 for_no_repeat moves (Deliver message) choice none (at, is, first) place e = absurd cc
 for_no_repeat moves (Lose message) choice none (at, is, first) place e = absurd cc
 for_no_repeat moves (Repeat message) choice none is place e = absurd cc

@@ -4,7 +4,7 @@ use Rattle.std.proofs.lemmas.List.{length-map, length-append}
 use Rattle.std.proofs.lemmas.List.Elements.{All-append, All-nil}
 use Rattle.ra_stamp.specs.declared.mode.Mode.{Mode}
 use Rattle.ra_world.specs.declared.step.Step.{Step}
-use Rattle.ra_world.specs.declared.step.Step.TheVariants.{Ask, Leave, Deliver, Lose, Repeat}
+use Rattle.ra_world.specs.declared.step.Step.TheVariants.{Ask, Leave, Cancel, Deliver, Lose, Repeat, Forget}
 use Rattle.ra_world.specs.Traffic.{Move}
 use Rattle.ra_world.specs.Run.{marks_of}
 use Rattle.ra_schedule.specs.declared.driver.client_state.ClientState.{ClientState}
@@ -37,9 +37,11 @@ split_map (m ∷ moves) (s ∷ before) last e =
 pub asks_not : (client : ℕ) (step : Step) → ((node asker : ℕ) (name : List ℕ) (mode : Mode) → step ≡ Ask node asker name mode → ⊥) → Asks client step → ⊥
 asks_not client (Ask node asker name mode) not asks = not node asker name mode refl
 asks_not client (Leave node leaver name) not asks = asks
+asks_not client (Cancel node waiter name) not asks = asks
 asks_not client (Deliver message) not asks = asks
 asks_not client (Lose message) not asks = asks
 asks_not client (Repeat message) not asks = asks
+asks_not client (Forget node) not asks = asks
 
 -- and only its own client
 pub asked_other : (client asker : ℕ) (step : Step) (node : ℕ) (name : List ℕ) (mode : Mode) → step ≡ Ask node asker name mode → (asker ≡ client → ⊥) → Asks client step → ⊥

@@ -1,6 +1,6 @@
 -- After each run in which the clients do what the script says, each of them is at the names at which it should be, and
 -- nobody else is at any.
-use Rattle.std.proofs.Common.{◌≡◌, ◌≢◌, ◌↔◌, ℕ, zero, suc, Some, List, [], ◌∷◌, ◌++◌, All, slice_get, refl, sym, ap, ◌∙◌, subst, append_assoc, arith, inl, inr}
+use Rattle.std.proofs.Common.{◌≡◌, ◌≢◌, ◌↔◌, ℕ, zero, suc, Some, List, [], ◌∷◌, ◌++◌, All, Contains, slice_get, refl, sym, ap, ◌∙◌, subst, append_assoc, arith, inl, inr}
 use Rattle.std.specs.Prelude.{if◌then◌else◌}
 use Rattle.std.proofs.lemmas.Bool.{cases_eq, eq-eqb}
 use Rattle.std.proofs.lemmas.Option.{slice_get_within, get_or_from_slice_get}
@@ -12,14 +12,15 @@ use Rattle.ra_stamp.specs.declared.mode.Mode.{Mode}
 use Rattle.ra_stamp.specs.Message.{from_of, to_of, name_of}
 use Rattle.ra_stamp.specs.NodeId.{IsNodeNumber}
 use Rattle.ra_automaton.specs.State.{IsOtherNode}
-use Rattle.ra_node.specs.Resource.{Resource, IsBusy, use_of, unmet}
-use Rattle.ra_node.specs.Turns.{AskTurn, LeaveTurn}
+use Rattle.ra_node.specs.Resource.{Resource, IsBusy, held_entry, use_of, clients_of, unmet}
+use Rattle.ra_node.specs.Turns.{AskTurn, LeaveTurn, CancelTurn}
 use Rattle.ra_node.specs.Node.{NodeState, opening_node, resource_at, IsConsistentNode}
-use Rattle.ra_node.specs.Events.{Event, name_of_event, NodeEvent, IsForThisNode}
-use Rattle.ra_node.specs.Events.Event.{Ask as AskedFor, Leave as GivenBack, Receive as Received}
+use Rattle.ra_node.specs.Events.{Event, IsNamed, name_of_event, NodeEvent, ForgetEvent, IsForThisNode}
+use Rattle.ra_node.specs.Events.Event.{Ask as AskedFor, Leave as GivenBack, Cancel as GivenUp, Receive as Received}
 use Rattle.ra_node.specs.Carried.{MarksLead}
 use Rattle.ra_node.proofs.Lookups.{nothing_met, resource_changed}
 use Rattle.ra_node.proofs.Updates.{received_turn}
+use Rattle.ra_node.proofs.Forgetting.{forget_uses}
 use Rattle.ra_world.specs.declared.step.Step.{Step}
 use Rattle.ra_world.specs.declared.step.Step.TheVariants.{Ask, Leave, Deliver, Lose, Repeat}
 use Rattle.ra_world.specs.Traffic.{Move, IsUnderWay}
@@ -166,6 +167,33 @@ all_untouched n client marks nodes nodes' none same = record {
   );
 }
 
+-- if one node forgets names, and all others stay
+pub forgot_untouched : (n client : ℕ) (sends : List Sent) (marks : List Mark) (nodes nodes' : ℕ → NodeState) (p : ℕ) → ((k : ℕ) → IsNode n k → k ≢ p → nodes' k ≡ nodes k)
+    → ForgetEvent (nodes p) sends marks (nodes' p) → Untouched n client marks nodes nodes'
+forgot_untouched n client sends marks nodes nodes' p others event = record {
+  stands = λ i name at. let same = clients_there i name at in
+      (λ h. subst (λ (cs : List ℕ). Contains cs client) (sym same) h, λ h. subst (λ (cs : List ℕ). Contains cs client) same h);
+  holds = inl (
+    subst (IsSilent client) (sym event.marks_are) (All-nil (λ mark. _)),
+    λ i name at. let same = use_there i name at in (
+      λ (e, h). (e, record { granted = ap held_entry same ∙ h.granted; client_is = h.client_is }),
+      λ (e, h). (e, record { granted = ap held_entry (sym same) ∙ h.granted; client_is = h.client_is }),
+    ),
+  );
+}
+  where
+    clients_there : (i : ℕ) (name : List ℕ) → IsNode n i → clients_of (resource_at (nodes' i) name) ≡ clients_of (resource_at (nodes i) name)
+    clients_there i name at = elim (cases_eq i p) [
+      | inl same ↦ subst (λ (k : ℕ). clients_of (resource_at (nodes' k) name) ≡ clients_of (resource_at (nodes k) name)) (sym same) (ap clients_of (event.resources name))
+      | inr apart ↦ ap (λ (s : NodeState). clients_of (resource_at s name)) (others i at apart)
+    ]
+
+    use_there : (i : ℕ) (name : List ℕ) → IsNode n i → use_of (resource_at (nodes' i) name) ≡ use_of (resource_at (nodes i) name)
+    use_there i name at = elim (cases_eq i p) [
+      | inl same ↦ subst (λ (k : ℕ). use_of (resource_at (nodes' k) name) ≡ use_of (resource_at (nodes k) name)) (sym same) (forget_uses (nodes p) (nodes' p) sends marks event name)
+      | inr apart ↦ ap (λ (s : NodeState). use_of (resource_at s name)) (others i at apart)
+    ]
+
 -- ---- An event
 
 module _ (laws : LawsOfNodes) (n : ℕ) (nodes nodes' : ℕ → NodeState) (move : Move) (p : ℕ) (event : Event) (went : Moved n nodes nodes' move p event)
@@ -176,11 +204,11 @@ module _ (laws : LawsOfNodes) (n : ℕ) (nodes nodes' : ℕ → NodeState) (move
   pub leads : MarksLead (use_of (resource_at (nodes p) r)) move.marks (use_of (resource_at (nodes' p) r))
   leads = laws.one_request (nodes p) (nodes' p) event move.sends move.marks went.happened
 
-  pub elsewhere : (i : ℕ) (name : List ℕ) → IsNode n i → (i ≡ p → name ≡ r → ⊥) → resource_at (nodes' i) name ≡ resource_at (nodes i) name
-  elsewhere i name at apart = elim (cases_eq i p) [
+  pub elsewhere : IsNamed event → (i : ℕ) (name : List ℕ) → IsNode n i → (i ≡ p → name ≡ r → ⊥) → resource_at (nodes' i) name ≡ resource_at (nodes i) name
+  elsewhere named i name at apart = elim (cases_eq i p) [
     | inl same ↦
         subst (λ (k : ℕ). resource_at (nodes' k) name ≡ resource_at (nodes k) name) (sym same)
-        (laws.other_names (nodes p) (nodes' p) event move.sends move.marks name went.happened (λ e. apart same e))
+        (laws.other_names (nodes p) (nodes' p) event move.sends move.marks name went.happened named (λ e. apart same e))
     | inr other ↦ ap (λ (s : NodeState). resource_at s name) (went.others i at other)
   ]
 
@@ -208,6 +236,12 @@ pub leave_turn : (old new : NodeState) (client : ℕ) (name : List ℕ) (sends :
     → NodeEvent old (GivenBack client name) sends marks new → LeaveTurn (resource_at old name) client sends marks (resource_at new name)
 leave_turn old new client name sends marks e =
     subst (λ (x : Resource). LeaveTurn (resource_at old name) client sends marks x)
+    (sym (ap (λ (s : NodeState). resource_at s name) e.new_is ∙ resource_changed old name e.resource)) e.turn
+
+pub cancel_turn : (old new : NodeState) (client : ℕ) (name : List ℕ) (sends : List Sent) (marks : List Mark)
+    → NodeEvent old (GivenUp client name) sends marks new → CancelTurn (resource_at old name) client sends marks (resource_at new name)
+cancel_turn old new client name sends marks e =
+    subst (λ (x : Resource). CancelTurn (resource_at old name) client sends marks x)
     (sym (ap (λ (s : NodeState). resource_at s name) e.new_is ∙ resource_changed old name e.resource)) e.turn
 
 pub own_step : (node client : ℕ) (op : Op) → steps_in client (step_of node client op) ≡ 1
@@ -257,7 +291,7 @@ module _ (nodes_laws : LawsOfNodes) (laws : LawsOfRuns) (script : ScriptState) (
       } in
       by_nobody (each_then nodes_laws n old.nodes nodes' move p event went old.each for)
       (λ client. ap (steps_in client) step) (λ client asks. subst (Asks client) step asks)
-      (λ client. untouched n client move.marks old.nodes nodes' p (name_of message) between.0 (elsewhere nodes_laws n old.nodes nodes' move p event went old.each)
+      (λ client. untouched n client move.marks old.nodes nodes' p (name_of message) between.0 (elsewhere nodes_laws n old.nodes nodes' move p event went old.each tt)
       (all_receive client (resource_at (old.nodes p) (name_of message)) message move.sends move.marks (resource_at (nodes' p) (name_of message))
       (received_turn (old.nodes p) (nodes' p) message move.sends move.marks went.happened) (leads nodes_laws n old.nodes nodes' move p event went old.each)))
 
@@ -320,7 +354,7 @@ module _ (nodes_laws : LawsOfNodes) (laws : LawsOfRuns) (script : ScriptState) (
       let went = moved nodes_laws n 0 moves move old.nodes nodes' old.ends run.ends.1 p event within here in
       let turn = ask_turn (old.nodes p) (nodes' p) client name mode move.sends move.marks went.happened in
       let lead = leads nodes_laws n old.nodes nodes' move p event went old.each in
-      let apart = elsewhere nodes_laws n old.nodes nodes' move p event went old.each in
+      let apart = elsewhere nodes_laws n old.nodes nodes' move p event went old.each tt in
       let s = old.nodes p in
       let was = resource_at s name in
       let is = resource_at (nodes' p) name in
@@ -346,7 +380,7 @@ module _ (nodes_laws : LawsOfNodes) (laws : LawsOfRuns) (script : ScriptState) (
       let went = moved nodes_laws n 0 moves move old.nodes nodes' old.ends run.ends.1 p event within here in
       let turn = leave_turn (old.nodes p) (nodes' p) client name move.sends move.marks went.happened in
       let lead = leads nodes_laws n old.nodes nodes' move p event went old.each in
-      let apart = elsewhere nodes_laws n old.nodes nodes' move p event went old.each in
+      let apart = elsewhere nodes_laws n old.nodes nodes' move p event went old.each tt in
       let was = resource_at (old.nodes p) name in
       let is = resource_at (nodes' p) name in
       let once = ((old.each p within).consistent.each name).once in

@@ -55,7 +55,13 @@ module _ (laws : LawsOfRuns) (script : ScriptState) (fit : IsScript script) (mov
   n = script.nodes
 
   requests_few : requests_in (marks_of moves) ≤ locks_of script
-  requests_few = omega (arith, laws.asks n 0 moves performs.run.ends.0 fit.count performs.run performs.run.ends.1, asks_at_most script moves performs)
+  requests_few =
+      omega (
+        arith,
+        laws.asks n 0 moves performs.run.ends.0 fit.count performs.run performs.run.ends.1,
+        laws.withdrawn n 0 moves fit.count performs.run,
+        asks_at_most script moves performs,
+      )
 
   -- numbers never run out
   pub numbers_left : (nodes : ℕ → NodeState) → EndsWith n 0 moves nodes → (i : ℕ) (name : List ℕ) → IsNode n i → (resource_at (nodes i) name).state.highest < greatest_number

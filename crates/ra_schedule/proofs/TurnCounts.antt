@@ -6,7 +6,7 @@ use Rattle.std.proofs.lemmas.List.Sums.{sum_by-cons}
 use Rattle.ra_stamp.specs.declared.message.Message.{Message as Sent}
 use Rattle.ra_bag.specs.Bag.{TakesFirst}
 use Rattle.ra_world.specs.declared.step.Step.{Step}
-use Rattle.ra_world.specs.declared.step.Step.TheVariants.{Ask, Leave, Deliver, Lose, Repeat}
+use Rattle.ra_world.specs.declared.step.Step.TheVariants.{Ask, Leave, Cancel, Deliver, Lose, Repeat, Forget}
 use Rattle.ra_world.specs.Asked.{asks_in, asks_by}
 use Rattle.ra_world.specs.Traffic.{Move, sent_by, put_by, taken_in, taken_by, repeated_in, repeated_by, TakesEach}
 use Rattle.ra_schedule.specs.declared.script.Op.{Op}
@@ -20,14 +20,16 @@ use Rattle.ra_schedule.proofs.Waiting.{steps_by-more}
 use Rattle.ra_schedule.proofs.Elsewhere.{another's}
 use Rattle.ra_schedule.proofs.StandingRuns.{own_step}
 
--- ---- Weights: of a lock and of an unlock
+-- ---- Weights: of a lock, and of an unlock and all else that happens at a node
 
 abbrev step_weight : ℕ → ℕ → Step → ℕ
 step_weight a b (Ask node client name mode) = a
 step_weight a b (Leave node client name) = b
+step_weight a b (Cancel node client name) = b
 step_weight a b (Deliver message) = 0
 step_weight a b (Lose message) = 0
 step_weight a b (Repeat message) = 0
+step_weight a b (Forget node) = b
 
 abbrev pub steps_weight : ℕ → ℕ → List Move → ℕ
 steps_weight a b [] = 0
@@ -183,9 +185,11 @@ asks_weight (move ∷ moves) = omega (arith, weight_is move.step, asks_weight mo
     weight_is : (step : Step) → step_weight 1 0 step ≡ asks_in step
     weight_is (Ask node client name mode) = refl
     weight_is (Leave node client name) = refl
+    weight_is (Cancel node client name) = refl
     weight_is (Deliver message) = refl
     weight_is (Lose message) = refl
     weight_is (Repeat message) = refl
+    weight_is (Forget node) = refl
 
 pub asks_at_most : (script : ScriptState) (moves : List Move) → Performs script moves → asks_by moves ≤ locks_of script
 asks_at_most script moves performs = omega (arith, weigh_at_most 1 0 script moves performs, all_locks script.clients, asks_weight moves)
@@ -199,9 +203,11 @@ by_step : (step : Step) (moves : List Move) → length moves ≡ steps_weight 1 
     → suc (length moves) ≡ step_weight 1 1 step + steps_weight 1 1 moves + length (taken_in step ++ taken_by moves) + length (repeated_in step ++ repeated_by moves)
 by_step (Ask node client name mode) moves rest = omega (arith, rest)
 by_step (Leave node client name) moves rest = omega (arith, rest)
+by_step (Cancel node client name) moves rest = omega (arith, rest)
 by_step (Deliver message) moves rest = omega (arith, rest)
 by_step (Lose message) moves rest = omega (arith, rest)
 by_step (Repeat message) moves rest = omega (arith, rest)
+by_step (Forget node) moves rest = omega (arith, rest)
 
 pub moves_are : (moves : List Move) → length moves ≡ steps_weight 1 1 moves + length (taken_by moves) + length (repeated_by moves)
 moves_are [] = refl

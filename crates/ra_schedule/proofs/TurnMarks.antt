@@ -116,14 +116,14 @@ pub others_leave : (client leaver : ℕ) (old : Resource) (sends : List Message)
     → LeaveTurn old leaver sends marks new → MarksLead (use_of old) marks (use_of new) → Befalls client old marks new
 others_leave client leaver old sends marks new apart turn leads = elim turn [
   | inl nobody ↦
-      let other : nobody.entry.client ≢ client = λ is. apart (sym nobody.leaves.holds.client_is ∙ is) in
+      let other : nobody.entry.client ≢ client = λ is. apart (sym nobody.ends.holds.client_is ∙ is) in
       inl (record {
         none = ap (marks_of_client client) nobody.marks_are ∙ names_another client (Left nobody.entry) [] other;
-        queued = λ q of has. subst (λ (qs : List Queued). Contains qs q) (sym nobody.leaves.queue_is) has;
-        waits = λ e of is. absurd (holder_waits_not old leaver nobody.entry e nobody.leaves.holds is);
+        queued = λ q of has. subst (λ (qs : List Queued). Contains qs q) (sym nobody.ends.queue_is) has;
+        waits = λ e of is. absurd (holder_waits_not old leaver nobody.entry e nobody.ends.holds is);
       })
   | inr next ↦
-      let other : next.entry.client ≢ client = λ is. apart (sym next.leaves.holds.client_is ∙ is) in
+      let other : next.entry.client ≢ client = λ is. apart (sym next.ends.holds.client_is ∙ is) in
       let e = next_entry (record next.between { queue = next.rest }) next.next.client next.next.mode in
       let marks_are : marks ≡ Left next.entry ∷ request_marks next.asks.entered e =
       next.marks_are ∙ ap (λ (ms : List Mark). Left next.entry ∷ ms) next.asks.marks_are in
@@ -146,7 +146,7 @@ others_leave client leaver old sends marks new apart turn leads = elim turn [
           none = own ∙ others_request client next.asks.entered e not;
           queued = λ q of has. subst (λ (qs : List Queued). Contains qs q) (sym next.asks.queue_is)
               (in_rest next.next next.rest q client not of (subst (λ (qs : List Queued). Contains qs q) next.queue_was has));
-          waits = λ w of is. absurd (holder_waits_not old leaver next.entry w next.leaves.holds is);
+          waits = λ w of is. absurd (holder_waits_not old leaver next.entry w next.ends.holds is);
         })
       ]
 ]
@@ -209,8 +209,8 @@ pub leaver : (client : ℕ) (old : Resource) (sends : List Message) (marks : Lis
 leaver client old sends marks new once turn leads = elim turn [
   | inl nobody ↦ (
     nobody.entry,
-    held_is (use_of old) nobody.entry nobody.leaves.holds.granted,
-    ap (marks_of_client client) nobody.marks_are ∙ names_it client (Left nobody.entry) [] nobody.leaves.holds.client_is,
+    held_is (use_of old) nobody.entry nobody.ends.holds.granted,
+    ap (marks_of_client client) nobody.marks_are ∙ names_it client (Left nobody.entry) [] nobody.ends.holds.client_is,
   )
   | inr next ↦
       let e = next_entry (record next.between { queue = next.rest }) next.next.client next.next.mode in
@@ -218,9 +218,9 @@ leaver client old sends marks new once turn leads = elim turn [
       (subst (λ (o : Option ℕ). Contains (option_to_list o ++ map (λ q. q.client) new.queue) client)
       (sym (next.asks.client_is ∙ ap (λ (k : ℕ). Some k) is)) (0, omega arith, refl)) in (
         next.entry,
-        held_is (use_of old) next.entry next.leaves.holds.granted,
+        held_is (use_of old) next.entry next.ends.holds.granted,
         ap (marks_of_client client) (next.marks_are ∙ ap (λ (ms : List Mark). Left next.entry ∷ ms) next.asks.marks_are)
-            ∙ names_it client (Left next.entry) (request_marks next.asks.entered e) next.leaves.holds.client_is
+            ∙ names_it client (Left next.entry) (request_marks next.asks.entered e) next.ends.holds.client_is
             ∙ ap (λ (ms : List Mark). Left next.entry ∷ ms) (others_request client next.asks.entered e other),
       )
 ]

@@ -7,7 +7,7 @@ use Rattle.std.proofs.lemmas.List.Elements.{All-replicate}
 use Rattle.std.proofs.lemmas.Option.{IfSome_then}
 use Rattle.ra_stamp.specs.NodeId.{IsNodeNumber}
 use Rattle.ra_world.specs.declared.step.Step.{Step}
-use Rattle.ra_world.specs.declared.step.Step.TheVariants.{Ask, Leave, Deliver, Lose, Repeat}
+use Rattle.ra_world.specs.declared.step.Step.TheVariants.{Ask, Leave, Cancel, Deliver, Lose, Repeat, Forget}
 use Rattle.ra_world.specs.Traffic.{Move}
 use Rattle.ra_world.specs.World.{WorldState}
 use Rattle.ra_world.specs.Run.{IsRun}
@@ -259,9 +259,11 @@ one_at_most client (Leave node leaver name) = at_most (leaver == client)
     at_most : (b : Bool) → (if b then 1 else 0) ≤ 1
     at_most true = omega arith
     at_most false = omega arith
+one_at_most client (Cancel node waiter name) = omega arith
 one_at_most client (Deliver message) = omega arith
 one_at_most client (Lose message) = omega arith
 one_at_most client (Repeat message) = omega arith
+one_at_most client (Forget node) = omega arith
 
 few_steps : (client : ℕ) (moves : List Move) → steps_by client (steps_of moves) ≤ length moves
 few_steps client [] = omega arith

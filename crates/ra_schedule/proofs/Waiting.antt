@@ -5,7 +5,7 @@ use Rattle.std.proofs.lemmas.List.Elements.{All-append, All-same, All-nil, All-p
 use Rattle.std.proofs.lemmas.List.Elements as elements
 use Rattle.ra_stamp.specs.declared.entry.Entry.{Entry}
 use Rattle.ra_stamp.specs.declared.entry.Mark.{Mark}
-use Rattle.ra_stamp.specs.declared.entry.Mark.TheVariants.{Requested, Entered, Left}
+use Rattle.ra_stamp.specs.declared.entry.Mark.TheVariants.{Requested, Entered, Left, Withdrawn}
 use Rattle.ra_world.specs.declared.step.Step.{Step}
 use Rattle.ra_world.specs.Traffic.{Move}
 use Rattle.ra_world.specs.Run.{marks_of}
@@ -139,3 +139,4 @@ pub no_entry : (client : ℕ) (mark : Mark) → ((entry : Entry) → mark ≡ En
 no_entry client (Requested entry) not h = h
 no_entry client (Entered entry) not h = not entry refl
 no_entry client (Left entry) not h = h
+no_entry client (Withdrawn entry) not h = h

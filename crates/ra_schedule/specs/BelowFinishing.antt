@@ -10,15 +10,15 @@ use Rattle.ra_automaton.specs.State.{IsOtherNode}
 use Rattle.ra_node.specs.Resource.{Holds, use_of}
 use Rattle.ra_node.specs.Turns.{MayAsk}
 use Rattle.ra_node.specs.Node.{NodeState, opening_node, resource_at, IsConsistentNode}
-use Rattle.ra_node.specs.Events.{Event, Happening, name_of_event, NodeEvent, NodeEvents, IsForThisNode}
+use Rattle.ra_node.specs.Events.{Event, Happening, IsNamed, name_of_event, NodeEvent, NodeEvents, IsForThisNode}
 use Rattle.ra_node.specs.Carried.{MarksLead}
 use Rattle.ra_table.specs.Table.{LockTable, TableRun}
 use Rattle.ra_world.specs.declared.step.Step.TheVariants.{Ask, Leave}
 use Rattle.ra_world.specs.Traffic.{Move, LeavesUnderWay, IsUnderWay, sent_by, repeated_by}
 use Rattle.ra_world.specs.Run.{IsRun, EndsWith, GoesOn, marks_of, waiting_at_all, queued_at_all}
 use Rattle.ra_world.specs.AtNodes.{IsTableOf}
-use Rattle.ra_world.specs.Asked.{asks_by}
-use Rattle.ra_world.specs.Quiet.{IsQuiet, IsBlocked, requests_in}
+use Rattle.ra_world.specs.Asked.{asks_by, cancels_by}
+use Rattle.ra_world.specs.Quiet.{IsQuiet, IsBlocked, requests_in, withdrawn_in}
 
 -- the laws of the events of a node, on which the laws on how scripts end depend
 pub record LawsOfNodes : Type 0 where
@@ -29,9 +29,10 @@ pub record LawsOfNodes : Type 0 where
       → NodeEvent old event sends marks new
       → MarksLead (use_of (resource_at old (name_of_event event))) marks (use_of (resource_at new (name_of_event event)))
   pub other_names : (old new : NodeState) (event : Event) (sends : List Message) (marks : List Mark) (other : List ℕ)
-      → NodeEvent old event sends marks new → other ≢ name_of_event event → resource_at new other ≡ resource_at old other
+      → NodeEvent old event sends marks new → IsNamed event → other ≢ name_of_event event
+      → resource_at new other ≡ resource_at old other
   pub same_node : (old new : NodeState) (event : Event) (sends : List Message) (marks : List Mark)
-      → NodeEvent old event sends marks new → (new.me ≡ old.me) × (new.nodes ≡ old.nodes) × (new.start ≡ old.start)
+      → NodeEvent old event sends marks new → (new.me ≡ old.me) × (new.nodes ≡ old.nodes) × (old.start ≤ new.start)
   pub one_end : (old a b : NodeState) (happened : List Happening) → NodeEvents old happened a → NodeEvents old happened b → a ≡ b
   pub splits : (prefix rest : List Happening) (a c : NodeState) → NodeEvents a (prefix ++ rest) c
       → (b : NodeState) × NodeEvents a prefix b × NodeEvents b rest c
@@ -72,4 +73,6 @@ pub record LawsOfRuns : Type 0 where
       → length (sent_by moves) ≤ 2 * (n - 1) * requests_in (marks_of moves) + length (repeated_by moves)
   pub asks : (n start : ℕ) (moves : List Move) (nodes : ℕ → NodeState)
       → IsNodeNumber n → IsRun n start moves → EndsWith n start moves nodes
-      → requests_in (marks_of moves) + queued_at_all n nodes ≡ asks_by moves
+      → requests_in (marks_of moves) + queued_at_all n nodes + cancels_by moves ≡ asks_by moves + withdrawn_in (marks_of moves)
+  pub withdrawn : (n start : ℕ) (moves : List Move) → IsNodeNumber n → IsRun n start moves
+      → withdrawn_in (marks_of moves) ≤ cancels_by moves

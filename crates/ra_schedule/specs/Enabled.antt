@@ -4,7 +4,7 @@ use Rattle.std.specs.Prelude.{◌≡◌, ◌≢◌, ◌↔◌, ◌⊎◌, ℕ, �
 use Rattle.ra_stamp.specs.declared.entry.Mark.{Mark}
 use Rattle.ra_stamp.specs.Message.{to_of}
 use Rattle.ra_world.specs.declared.step.Step.{Step}
-use Rattle.ra_world.specs.declared.step.Step.TheVariants.{Ask, Leave, Deliver, Lose, Repeat}
+use Rattle.ra_world.specs.declared.step.Step.TheVariants.{Ask, Leave, Cancel, Deliver, Lose, Repeat, Forget}
 use Rattle.ra_world.specs.Traffic.{Move}
 use Rattle.ra_schedule.specs.declared.choice.enabled.Enabled.{Enabled}
 use Rattle.ra_schedule.specs.Script.{ScriptState, client_at}
@@ -42,9 +42,11 @@ node_of script client = option_map (λ who. who.node) (client_at script client)
 abbrev pub node_at : Step → Option ℕ
 node_at (Ask node client name mode) = Some node
 node_at (Leave node client name) = Some node
+node_at (Cancel node client name) = Some node
 node_at (Deliver message) = Some (to_of message)
 node_at (Lose message) = None
 node_at (Repeat message) = None
+node_at (Forget node) = Some node
 
 -- each client is in the list of its node; the lists are in the order of the nodes' numbers
 abbrev pub AreNodeClients : ScriptState → List (List ℕ) → Type 0

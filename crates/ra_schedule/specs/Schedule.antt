@@ -4,10 +4,10 @@ use Rattle.std.specs.Prelude.{◌≡◌, ◌≢◌, ◌↔◌, ℕ, ◌+◌, ◌
 use Rattle.std.specs.List.{range_with_len}
 use Rattle.std.specs.List.Sorted.{IsStrictlyIncreasing}
 use Rattle.ra_stamp.specs.declared.entry.Mark.{Mark}
-use Rattle.ra_stamp.specs.declared.entry.Mark.TheVariants.{Requested, Entered, Left}
+use Rattle.ra_stamp.specs.declared.entry.Mark.TheVariants.{Requested, Entered, Left, Withdrawn}
 use Rattle.ra_stamp.specs.declared.message.Message.{Message as Sent}
 use Rattle.ra_world.specs.declared.step.Step.{Step}
-use Rattle.ra_world.specs.declared.step.Step.TheVariants.{Ask, Leave, Deliver, Lose, Repeat}
+use Rattle.ra_world.specs.declared.step.Step.TheVariants.{Ask, Leave, Cancel, Deliver, Lose, Repeat, Forget}
 use Rattle.ra_world.specs.declared.text.report.Report.{Report}
 use Rattle.ra_world.specs.Traffic.{Move, LeavesUnderWay}
 use Rattle.ra_world.specs.Run.{IsRun, GoesOn, marks_of}
@@ -27,13 +27,15 @@ use Rattle.ra_schedule.specs.Faults.{FaultRates}
 abbrev pub steps_of : List Move → List Step
 steps_of moves = map (λ move. move.step) moves
 
--- 1 if the step is this client's, and otherwise 0
+-- 1 if the step does an operation of this client, and otherwise 0. No operation is a cancel.
 abbrev pub steps_in : ℕ → Step → ℕ
 steps_in client (Ask node asker name mode) = if asker == client then 1 else 0
 steps_in client (Leave node leaver name) = if leaver == client then 1 else 0
+steps_in client (Cancel node waiter name) = 0
 steps_in client (Deliver message) = 0
 steps_in client (Lose message) = 0
 steps_in client (Repeat message) = 0
+steps_in client (Forget node) = 0
 
 -- how many of these steps are this client's, which is its place in its list of operations
 abbrev pub steps_by : ℕ → List Step → ℕ
@@ -44,15 +46,18 @@ steps_by client (step ∷ steps) = steps_in client step + steps_by client steps
 abbrev pub Asks : ℕ → Step → Type 0
 Asks client (Ask node asker name mode) = asker ≡ client
 Asks client (Leave node leaver name) = ⊥
+Asks client (Cancel node waiter name) = ⊥
 Asks client (Deliver message) = ⊥
 Asks client (Lose message) = ⊥
 Asks client (Repeat message) = ⊥
+Asks client (Forget node) = ⊥
 
 -- the mark says that the client entered
 abbrev pub Enters : ℕ → Mark → Type 0
 Enters client (Requested entry) = ⊥
 Enters client (Entered entry) = entry.client ≡ client
 Enters client (Left entry) = ⊥
+Enters client (Withdrawn entry) = ⊥
 
 -- the client waits: it has asked, and has no mark Entered since then. So a queued client waits, too.
 abbrev pub IsWaiting : ℕ → List Move → Type 0
@@ -148,9 +153,11 @@ with_fault faults word (Repeated place) = Repeated place
 abbrev pub words_in : Step → ℕ
 words_in (Ask node client name mode) = 1
 words_in (Leave node client name) = 1
+words_in (Cancel node client name) = 0
 words_in (Deliver message) = 2
 words_in (Lose message) = 2
 words_in (Repeat message) = 2
+words_in (Forget node) = 0
 
 -- how many words chance with faults drew for these steps
 abbrev pub words_by : List Step → ℕ

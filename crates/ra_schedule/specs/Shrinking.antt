@@ -4,7 +4,7 @@ use Rattle.ra_stamp.specs.Sequence.{Listed as Listing}
 use Rattle.ra_stamp.specs.declared.message.Message.{Message as Sent}
 use Rattle.ra_stamp.specs.declared.message.Message.TheVariants.{Request, Reply}
 use Rattle.ra_world.specs.declared.step.Step.{Step}
-use Rattle.ra_world.specs.declared.step.Step.TheVariants.{Ask, Leave, Deliver, Lose, Repeat}
+use Rattle.ra_world.specs.declared.step.Step.TheVariants.{Ask, Leave, Cancel, Deliver, Lose, Repeat, Forget}
 use Rattle.ra_world.specs.declared.text.report.Report.{Report}
 use Rattle.ra_world.specs.Traffic.{Move, LeavesUnderWay, repeated_by}
 use Rattle.ra_world.specs.Run.{IsRun}
@@ -49,9 +49,11 @@ pub record IsStuckRun (script : ScriptState) (moves : List Move) : Type 0 where
 abbrev pub client_of : Step → Option ℕ
 client_of (Ask node client name mode) = Some client
 client_of (Leave node client name) = Some client
+client_of (Cancel node client name) = Some client
 client_of (Deliver message) = None
 client_of (Lose message) = None
 client_of (Repeat message) = None
+client_of (Forget node) = None
 
 -- whether both are there, and the same
 abbrev pub are_one : Option ℕ → Option ℕ → Bool
@@ -94,13 +96,15 @@ IsFirstAlike moves message place = IsAlikeAt moves message place
     × ((earlier : ℕ) → earlier < place → IsAlikeAt moves message earlier → ⊥)
 
 -- The choice by which a step is done again: the next operation of its client, or the same with the first message that differs
--- from its own at most in the number.
+-- from its own at most in the number. No choice cancels or forgets.
 abbrev pub IsFor : List Move → Step → Choice → Type 0
 IsFor moves (Ask node client name mode) choice = choice ≡ Client client
 IsFor moves (Leave node client name) choice = choice ≡ Client client
+IsFor moves (Cancel node client name) choice = ⊥
 IsFor moves (Deliver message) choice = (place : ℕ) × (choice ≡ Message place) × IsFirstAlike moves message place
 IsFor moves (Lose message) choice = (place : ℕ) × (choice ≡ Lost place) × IsFirstAlike moves message place
 IsFor moves (Repeat message) choice = (place : ℕ) × (choice ≡ Repeated place) × IsFirstAlike moves message place
+IsFor moves (Forget node) choice = ⊥
 
 -- the step was done again, if it can be
 abbrev pub Redone : ScriptState → Step → (old new : List Move) → Type 0

@@ -34,19 +34,20 @@ pub type Choices = Sequence<Choice>;
 /// How the next choice is made.
 #[derive(Drop)]
 pub enum Policy {
-    /// The first client in the order of the script that is enabled. If none is, the message that was sent first of those under
-    /// way. If nothing is under way either, the end.
+    /// The first client in the order of the script that is enabled. If none is, the message that was sent first of
+    /// those under way. If nothing is under way either, the end.
     Oldest,
     /// The same, with the message that was sent last.
     Newest,
-    /// At random, from a seed. The choices of a turn are the clients that are enabled, in the order of the script, and after them
-    /// the messages under way, in the order of sending. The turn draws one word, the next one of the PCG generator XSL RR
-    /// 128/64 of this seed, and takes the choice whose number, counted from 0, is the word modulo the number of choices. If
-    /// there is no choice, no word is drawn and it ends. So a script and a seed have one run, the same on each machine.
+    /// At random, from a seed. The choices of a turn are the clients that are enabled, in the order of the script, and
+    /// after them the messages under way, in the order of sending. The turn draws one word, the next one of the PCG
+    /// generator XSL RR 128/64 of this seed, and takes the choice whose number, counted from 0, is the word modulo the
+    /// number of choices. If there is no choice, no word is drawn and it ends. So a script and a seed have one run, the
+    /// same on each machine.
     Seeded(u64),
-    /// The same chance, with faults. If the word names a message, the turn draws one word more, and that word modulo 1,000 says
-    /// what becomes of the message. Below the number of those that are lost it is lost, from there on below the sum of both
-    /// numbers it is repeated, and otherwise it is delivered.
+    /// The same chance, with faults. If the word names a message, the turn draws one word more, and that word modulo
+    /// 1,000 says what becomes of the message. Below the number of those that are lost it is lost, from there on below
+    /// the sum of both numbers it is repeated, and otherwise it is delivered.
     Faulty { seed: u64, faults: Faults },
     /// These choices, one after the other, and then the end.
     Listed(Choices),

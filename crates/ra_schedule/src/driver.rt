@@ -131,8 +131,8 @@ impl Driver {
         )
     }
 
-    /// Makes the step that a choice means, if there is one. Both are recorded before the step is made, so that there is memory
-    /// for the record.
+    /// Makes the step that a choice means, if there is one. Both are recorded before the step is made, so that there is
+    /// memory for the record.
     ///
     /// # Errors
     ///
@@ -202,7 +202,8 @@ fn keep(
 
 /// Returns the place of the message that a choice names, or 0 if it names a client.
 pub fn place_in(choice: Choice) -> u64
-    ensures { (place : ℕ) → (choice ≡ Choice.Message place) ⊎ (choice ≡ Choice.Lost place) ⊎ (choice ≡ Choice.Repeated place)
+    ensures { (place : ℕ) → (choice ≡ Choice.Message place) ⊎ (choice ≡ Choice.Lost place)
+        ⊎ (choice ≡ Choice.Repeated place)
         → result ≡ place }
 {
     match choice {

@@ -18,6 +18,7 @@ pub fn policies_lead_to_one_run()
 /// A policy repeats a message only if it has faults with some repeats, or lists one. So what a report says of runs
 /// without repeats is true of each run that `drive` and `summarize` return under any other policy.
 pub fn policies_repeat_no_message()
-    ensures { (script : ScriptState) (policy : Policy) (moves : List Move) → RepeatsNothing policy → Follows script policy moves
+    ensures { (script : ScriptState) (policy : Policy) (moves : List Move) → RepeatsNothing policy
+        → Follows script policy moves
         → repeated_by moves ≡ [] }
 {}

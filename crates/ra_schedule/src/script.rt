@@ -57,9 +57,9 @@ impl Client {
     }
 }
 
-/// What clients do at the nodes of a cluster. Contracts see how many nodes there are, and for each client its node and its
-/// operations. There are at most 64 clients, each at one of the nodes, with at most 1,024 operations. None locks a name
-/// that it has, or unlocks one that it has not. A client may have names at the end.
+/// What clients do at the nodes of a cluster. Contracts see how many nodes there are, and for each client its node and
+/// its operations. There are at most 64 clients, each at one of the nodes, with at most 1,024 operations. None locks a
+/// name that it has, or unlocks one that it has not. A client may have names at the end.
 pub struct Script {
     nodes: NodeCount,
     clients: Vec<Client>,
@@ -207,8 +207,8 @@ impl Script {
         self.clients.len() as u32
     }
 
-    /// Returns the node of the client with this number, counted from 1, or `None` if there is no such client. It does not
-    /// allocate.
+    /// Returns the node of the client with this number, counted from 1, or `None` if there is no such client. It does
+    /// not allocate.
     pub fn node_of(&self, client: u32) -> Option<NodeId>
         ensures value { result ≡ option_map (λ c. c.node) (client_at self.now client) }
         ensures script { IsScript self.now }
@@ -219,8 +219,8 @@ impl Script {
         }
     }
 
-    /// Returns how many operations the client with this number has, at most 1,024, or `None` if there is no such client.
-    /// It does not allocate.
+    /// Returns how many operations the client with this number has, at most 1,024, or `None` if there is no such
+    /// client. It does not allocate.
     pub fn ops_of(&self, client: u32) -> Option<u64>
         ensures value { result ≡ option_map (λ c. length c.ops) (client_at self.now client) }
         ensures script { IsScript self.now }
@@ -231,8 +231,8 @@ impl Script {
         }
     }
 
-    /// Returns the operation at this place, counted from 0, of the client with this number, or `None` if there is no such
-    /// client or no operation. It does not allocate.
+    /// Returns the operation at this place, counted from 0, of the client with this number, or `None` if there is no
+    /// such client or no operation. It does not allocate.
     pub fn op(&self, client: u32, place: u64) -> Option<Op>
         ensures value { result ≡ op_at self.now client place }
         ensures script { IsScript self.now }
@@ -266,7 +266,8 @@ impl Script {
     }
 }
 
-/// Returns why an operation can't be added after these, or `None` if it fits after them, and they are fewer than a client may have.
+/// Returns why an operation can't be added after these, or `None` if it fits after them, and they are fewer than a
+/// client may have.
 fn fault_of(ops: &[Op], op: &Op) -> Option<AddOpError>
     ensures { MatchOption result (HasRoomFor ops.now op.now) (IsFault ops.now op.now) }
 {
@@ -280,8 +281,8 @@ fn fault_of(ops: &[Op], op: &Op) -> Option<AddOpError>
     }
 }
 
-/// Returns whether a client that did these operations has the name. The last one about the name says so, and is looked for from the
-/// end.
+/// Returns whether a client that did these operations has the name. The last one about the name says so, and is looked
+/// for from the end.
 fn is_held_after(ops: &[Op], name: &Name) -> bool
     ensures { IsTrue result ↔ IsHeldAfter ops.now name.now }
 {

@@ -57,9 +57,9 @@ pub fn outcome_of(
     }
 }
 
-/// Drives a cluster through a script by chance, with faults or without, under each seed of a range, each within `limit` turns, and
-/// counts their outcomes. The observer learns of each seed. It costs what [`summarize`] costs, for each seed, and keeps nothing
-/// of a run but its figures.
+/// Drives a cluster through a script by chance, with faults or without, under each seed of a range, each within `limit`
+/// turns, and counts their outcomes. The observer learns of each seed. It costs what [`summarize`] costs, for each
+/// seed, and keeps nothing of a run but its figures.
 ///
 /// # Errors
 ///

@@ -6,7 +6,7 @@ use Rattle.std.proofs.lemmas.List.Elements.{All-nil, All-cons}
 use Rattle.std.proofs.lemmas.Option.{slice_get_within}
 use Rattle.ra_stamp.specs.declared.message.Message.{Message as Sent}
 use Rattle.ra_world.specs.declared.step.Step.{Step}
-use Rattle.ra_world.specs.declared.step.Step.TheVariants.{Ask, Leave, Deliver, Lose, Repeat}
+use Rattle.ra_world.specs.declared.step.Step.TheVariants.{Ask, Leave, Cancel, Deliver, Lose, Repeat, Forget}
 use Rattle.ra_world.specs.Traffic.{Move, put_in, put_by, taken_in, taken_by, lost_by, repeated_in, repeated_by, TakesEach, LeavesUnderWay}
 use Rattle.ra_schedule.specs.declared.choice.Choice.{Choice}
 use Rattle.ra_schedule.specs.declared.choice.Choice.TheVariants.{Client, Message, Lost, Repeated}
@@ -38,9 +38,11 @@ repeated_more (move ∷ moves) more =
 one_taken : (step : Step) → length (taken_in step) ≤ 1
 one_taken (Ask node client name mode) = omega arith
 one_taken (Leave node client name) = omega arith
+one_taken (Cancel node client name) = omega arith
 one_taken (Deliver message) = omega arith
 one_taken (Lose message) = omega arith
 one_taken (Repeat message) = omega arith
+one_taken (Forget node) = omega arith
 
 taken_few : (moves : List Move) → length (taken_by moves) ≤ length moves
 taken_few [] = omega arith

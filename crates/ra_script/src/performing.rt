@@ -74,7 +74,8 @@ fn trace_of(alloc: Global, policy: &Policy, script: &Script) -> Result<Printed, 
 ///
 /// Those of `choices_text`.
 fn choices_line(alloc: Global, choices: &Choices) -> Result<String, ChoicesError>
-    ensures ok { IfOk result (λ line. (text : List ℕ) × Lists text choices.now.items × (string_bytes line ≡ text ++ codes "\n")) }
+    ensures ok { IfOk result
+        (λ line. (text : List ℕ) × Lists text choices.now.items × (string_bytes line ≡ text ++ codes "\n")) }
     ensures err { IfErr result (λ fault. ((fault ≡ ChoicesError.Choice) × (All HasText choices.now.items → ⊥))
         ⊎ (fault ≡ ChoicesError.Memory)) }
 {
@@ -128,8 +129,8 @@ fn line_or_none(alloc: Global, choices: &Option<Choices>) -> Result<String, Choi
     }
 }
 
-/// Drives a cluster through a script by a policy, and returns the line of the choices to which the run is shrunk if it is stuck, or
-/// a line that says that it is not.
+/// Drives a cluster through a script by a policy, and returns the line of the choices to which the run is shrunk if it
+/// is stuck, or a line that says that it is not.
 ///
 /// # Errors
 ///
@@ -197,12 +198,14 @@ pub fn print_run(
 ///
 /// - `Lines`: the lines of the report, as [`perform`] does.
 /// - `Trace`: the trace, as [`perform_trace`] does, at its cost.
-/// - `Choices`: the policy's choices, in their words on one line. So `--policy listed --choices` with these words makes the same
-///   run again, whatever policy made it first. It costs about what `perform` does, plus time and memory linear in the number of turns.
-/// - `Shrunk`: if the run is stuck, the choices to which [`ra_schedule::shrink`] shrinks it, on one line, and otherwise the word `none`.
-///   For a run of n turns, at most n(n + 1) / 2 more runs are made, each of at most n turns. It takes memory linear in n.
-/// - `State`: the lines of the state at the end, at the cost of [`ra_schedule::show`]. It keeps the steps, in memory linear in the number
-///   of turns.
+/// - `Choices`: the policy's choices, in their words on one line. So `--policy listed --choices` with these words makes
+///   the same run again, whatever policy made it first. It costs about what `perform` does, plus time and memory linear
+///   in the number of turns.
+/// - `Shrunk`: if the run is stuck, the choices to which [`ra_schedule::shrink`] shrinks it, on one line, and otherwise
+///   the word `none`. For a run of n turns, at most n(n + 1) / 2 more runs are made, each of at most n turns. It takes
+///   memory linear in n.
+/// - `State`: the lines of the state at the end, at the cost of [`ra_schedule::show`]. It keeps the steps, in memory
+///   linear in the number of turns.
 ///
 /// # Errors
 ///
@@ -226,7 +229,8 @@ pub fn perform_as<R: Read, W: Write>(
     ensures { PerformsScript format policy.now (R.remaining reader.old) (R.remaining reader.new)
         (W.contents writer.old) (W.contents writer.new) (writer.new ≡ writer.old) result }
 {
-    // For the proof: without repeats no script comes to the limit of turns, and a policy that chooses by itself is not refused.
+    // For the proof: without repeats no script comes to the limit of turns, and a policy that chooses by itself is not
+    // refused.
     read_scripts_come_to_rest();
     let input = read_up_to(alloc, reader, MAX_SCRIPT + 1)?;
     let read = read_script(alloc, &input);
@@ -240,9 +244,9 @@ pub fn perform_as<R: Read, W: Write>(
     Ok(printed.finished)
 }
 
-/// Reads the text of a script, drives a cluster through it by a policy, in at most 16,777,216 turns, and writes the lines of
-/// the report. Returns whether the run is finished: every operation is done, and nothing waits, is queued or under way. It takes
-/// at most 65,537 bytes from the reader, and no read or write that failed is tried again.
+/// Reads the text of a script, drives a cluster through it by a policy, in at most 16,777,216 turns, and writes the
+/// lines of the report. Returns whether the run is finished: every operation is done, and nothing waits, is queued or
+/// under way. It takes at most 65,537 bytes from the reader, and no read or write that failed is tried again.
 ///
 /// # Errors
 ///
@@ -267,8 +271,9 @@ pub fn perform<R: Read, W: Write>(
     perform_as(alloc, reader, writer, OutputKind::Lines, policy)
 }
 
-/// Does as [`perform`], and writes the trace of the run in place of the lines of its report. It keeps the steps, and makes them a
-/// second time for their marks, so that it costs about twice as much, plus time and memory linear in the trace.
+/// Does as [`perform`], and writes the trace of the run in place of the lines of its report. It keeps the steps, and
+/// makes them a second time for their marks, so that it costs about twice as much, plus time and memory linear in the
+/// trace.
 ///
 /// # Errors
 ///

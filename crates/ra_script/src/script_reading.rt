@@ -155,8 +155,8 @@ fn script_in(alloc: Global, document: &DocumentRef<'_>) -> Result<Script, Script
 ///
 /// # Errors
 ///
-/// For the first client that is refused, `Limit`, `Op`, `NotHeld` or `AlreadyHeld`, as at `add_client`. `Memory`, which may come
-/// before it.
+/// For the first client that is refused, `Limit`, `Op`, `NotHeld` or `AlreadyHeld`, as at `add_client`. `Memory`, which
+/// may come before it.
 fn script_with(alloc: Global, nodes: u16, clients: &[ClientRef<'_>]) -> Result<Script, ScriptError>
     requires nodes { IsNodeNumber nodes }
     requires placed { IsTrue (spec.are_placed nodes (map client_table clients.now)) }
@@ -175,23 +175,25 @@ fn script_with(alloc: Global, nodes: u16, clients: &[ClientRef<'_>]) -> Result<S
     Ok(script)
 }
 
-/// Reads the text of a script: a TOML document with the keys `nodes`, an integer, and `client`, an array of tables. Each of these
-/// has the keys `node`, an integer, and `ops`, an array of strings. The word of a mode (`X`, `S`, `IS`, `IX` or `SIX`), one space
-/// and a name lock the name in that mode, and `U NAME` unlocks it. Clients are numbered from 1 by place, and may have names at
-/// the end. It costs what the parser costs, and for each client at most the square of its operations.
+/// Reads the text of a script: a TOML document with the keys `nodes`, an integer, and `client`, an array of tables.
+/// Each of these has the keys `node`, an integer, and `ops`, an array of strings. The word of a mode (`X`, `S`, `IS`,
+/// `IX` or `SIX`), one space and a name lock the name in that mode, and `U NAME` unlocks it. Clients are numbered from
+/// 1 by place, and may have names at the end. It costs what the parser costs, and for each client at most the square of
+/// its operations.
 ///
 /// # Errors
 ///
-/// The first that holds, except that `Memory` may come before any after these two: that the text is too long, and that it is not UTF-8.
+/// The first that holds, except that `Memory` may come before any after these two: that the text is too long, and that
+/// it is not UTF-8.
 ///
 /// 1. `Limit`: the text has more than 65,536 bytes.
 /// 2. `Toml`: it is not UTF-8, or no TOML document.
 /// 3. `Shape`: a key is missing, unknown or of another type, anywhere in the document.
 /// 4. `Nodes`: the number of nodes is not 1 to 64.
 /// 5. `Clients`: there are not 1 to 64 clients, or one of them is at none of the nodes.
-/// 6. For the first client with a fault, `Limit` if it has more than 1,024 operations. Otherwise, for its first operation with a
-///    fault: `Op` if it has none of the six forms, `NotHeld` if it unlocks a name that the client does not have then, and
-///    `AlreadyHeld` if it locks a name that the client has.
+/// 6. For the first client with a fault, `Limit` if it has more than 1,024 operations. Otherwise, for its first
+///    operation with a fault: `Op` if it has none of the six forms, `NotHeld` if it unlocks a name that the client does
+///    not have then, and `AlreadyHeld` if it locks a name that the client has.
 /// 7. `Memory`: memory ran out.
 pub fn read_script(alloc: Global, text: &[u8]) -> Result<Script, ScriptError>
     ensures ok { IfOk result (λ script. spec.script_of text.now ≡ Ok script) }

@@ -28,7 +28,7 @@ pub record GivingLaws : Type 0 where
   pub consistent : (me nodes start : ℕ) (new : NodeState) (happened : List Happening) → IsNodeNumber nodes → (1 ≤ me) × (me ≤ nodes)
       → AreForThisNode (opening_node me nodes start) happened → NodeEvents (opening_node me nodes start) happened new → IsConsistentNode new
   pub stays : (old new : NodeState) (happened : List Happening) → NodeEvents old happened new
-      → (new.me ≡ old.me) × (new.nodes ≡ old.nodes) × (new.start ≡ old.start)
+      → (new.me ≡ old.me) × (new.nodes ≡ old.nodes) × (old.start ≤ new.start)
   pub makes : (old new : NodeState) (event : Event) (sends : List Message) (marks : List Mark) → IsConsistentNode old → IsForThisNode old event
       → NodeEvent old event sends marks new → All (IsMark old.me (name_of_event event)) marks
   pub one_event : (old a b : NodeState) (event : Event) (sends sends' : List Message) (marks marks' : List Mark)

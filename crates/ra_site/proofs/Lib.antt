@@ -2,3 +2,4 @@ mod SiteNumbers
 mod LostFrames
 mod NoError
 mod GivenGrants
+pub mod Refusing

@@ -16,6 +16,7 @@ use std::marker::Model;
 use std::sync::{Mutex, Wait};
 use std::thread;
 use std::thread::Threads;
+use std::time::{Clock, Duration};
 use thiserror::Error;
 
 /// Why a call of a cluster failed.
@@ -55,17 +56,17 @@ pub struct Held<T> {
 /// between them with its inboxes, and the gate that is asked before each step. Threads share it. Contracts see the
 /// number of nodes and the start.
 ///
-/// While clients lock and unlock names, each node needs a thread that carries its frames: [`Cluster::run`] starts and ends
-/// these threads. At the end [`Cluster::close`] returns the books, which [`settle`](crate::settle) takes as they are. A cluster
-/// that is made to be audited is not settled: the rounds of an audit (crate `ra_audit`) take what has happened while it runs, and
-/// what is left at the end. Then [`Cluster::close_audited`] returns its books.
+/// While clients lock and unlock names, each node needs a thread that carries its frames: [`Cluster::run`] starts and
+/// ends these threads. At the end [`Cluster::close`] returns the books, which [`settle`](crate::settle) takes as they
+/// are. A cluster that is made to be audited is not settled: the rounds of an audit (crate `ra_audit`) take what has
+/// happened while it runs, and what is left at the end. Then [`Cluster::close_audited`] returns its books.
 pub struct Cluster<G> {
     start: u64,
     sites: Vec<Site>,
     post: Post,
     inboxes: Vec<Inbox>,
-    /// Where the books are put when the cluster is closed. It is under a lock, since threads share a cluster, and books can't be
-    /// shared.
+    /// Where the books are put when the cluster is closed. It is under a lock, since threads share a cluster, and books
+    /// can't be shared.
     room: Mutex<BookRoom>,
     gate: G,
     audited: bool,
@@ -121,8 +122,8 @@ impl<G: Gate + Drop> Cluster<G> {
         Cluster::make(alloc, nodes, start, gate, false)
     }
 
-    /// Makes a cluster as `new` does, whose books hand over what has happened to an auditor (crate `ra_audit`) while it runs, so
-    /// that they don't grow with what happened before. It is audited as it goes, and not settled at the end.
+    /// Makes a cluster as `new` does, whose books hand over what has happened to an auditor (crate `ra_audit`) while it
+    /// runs, so that they don't grow with what happened before. It is audited as it goes, and not settled at the end.
     ///
     /// # Errors
     ///
@@ -189,7 +190,8 @@ impl<G: Gate + Drop> Cluster<G> {
     }
 
     /// Returns the gate that the cluster was made with. It does not allocate.
-    // No clause says that it is this gate, since contracts don't see the gate. There is no other one that it could return.
+    // No clause says that it is this gate, since contracts don't see the gate. There is no other one that it could
+    // return.
     pub fn gate(&self) -> &G {
         &self.gate
     }
@@ -214,9 +216,10 @@ impl<G: Gate + Drop> Cluster<G> {
     }
 
     /// Runs a thread in [`Cluster::pump`] for each node and, in this thread, the closure, in which clients may lock and
-    /// unlock names, also on threads of their own. When the closure has returned, closes the post, joins the threads of the
-    /// nodes, and returns what the closure returned. After that no frame is carried any more. If a thread cannot be started,
-    /// the cluster is stopped with `Spawn` and the closure is called all the same; then each call of a client is refused.
+    /// unlock names, also on threads of their own. When the closure has returned, closes the post, joins the threads of
+    /// the nodes, and returns what the closure returned. After that no frame is carried any more. If a thread cannot be
+    /// started, the cluster is stopped with `Spawn` and the closure is called all the same; then each call of a client
+    /// is refused.
     ///
     /// The closure must not return before its clients' threads have ended, so start them in a scope or join them.
     pub fn run<R: Threads + Wait + Sync, T, F: FnOnce() -> T>(
@@ -282,6 +285,78 @@ impl<G: Gate + Drop> Cluster<G> {
         Ok(site.lock(rt, alloc, client, name, mode, &self.post, sites, &self.gate)?)
     }
 
+    /// Asks for a name for a client of a node, and waits until the client holds it or the time is over, as
+    /// [`Site::lock_within`] does. `None` means that the time is over, and that the client holds nothing.
+    ///
+    /// # Errors
+    ///
+    /// The first that comes:
+    ///
+    /// 1. `NoNode`: the cluster has no such node.
+    /// 2. `Site`: as [`Site::lock_within`] says.
+    pub fn lock_within<R: Wait + Clock>(
+        &self,
+        rt: &R,
+        alloc: Global,
+        node: NodeId,
+        client: u32,
+        name: Name,
+        mode: Mode,
+        time: Duration,
+    ) -> Result<Option<Grant>, CallError>
+        ensures grant { IfOk result (λ held. IfSome held (IsGrantOf node client name mode)) }
+        ensures given { IfOk result (λ held. IfSome held WasGiven) }
+        ensures no_node { IsErrOf result CallError.NoNode ↔ self.now.nodes < node }
+    {
+        let Some((site, sites)) = self.site_among_all(node) else {
+            return Err(CallError::NoNode);
+        };
+        Ok(site.lock_within(
+            rt, alloc, client, name, mode, time, &self.post, sites, &self.gate,
+        )?)
+    }
+
+    /// Gives up a name for which a client of a node waits or is queued, as [`Site::cancel`] does.
+    ///
+    /// # Errors
+    ///
+    /// The first that holds, and nothing was given up:
+    ///
+    /// 1. `NoNode`: the cluster has no such node.
+    /// 2. `Site`: as [`Site::cancel`] says.
+    pub fn cancel<R: Wait>(
+        &self,
+        rt: &R,
+        alloc: Global,
+        node: NodeId,
+        client: u32,
+        name: Name,
+    ) -> Result<(), CallError>
+        ensures no_node { IsErrOf result CallError.NoNode ↔ self.now.nodes < node }
+    {
+        let Some((site, sites)) = self.site_among_all(node) else {
+            return Err(CallError::NoNode);
+        };
+        Ok(site.cancel(rt, alloc, client, name, &self.post, sites, &self.gate)?)
+    }
+
+    /// Has a node forget the names that it need not keep, as [`Site::forget`] does.
+    ///
+    /// # Errors
+    ///
+    /// The first that holds, and nothing was forgotten:
+    ///
+    /// 1. `NoNode`: the cluster has no such node.
+    /// 2. `Site`: as [`Site::forget`] says.
+    pub fn forget<R: Wait>(&self, rt: &R, alloc: Global, node: NodeId) -> Result<(), CallError>
+        ensures no_node { IsErrOf result CallError.NoNode ↔ self.now.nodes < node }
+    {
+        let Some((site, sites)) = self.site_among_all(node) else {
+            return Err(CallError::NoNode);
+        };
+        Ok(site.forget(rt, alloc, sites, &self.gate)?)
+    }
+
     /// Gives back the name that a client of a node holds, as [`Site::unlock`] does.
     ///
     /// # Errors
@@ -345,8 +420,52 @@ impl<G: Gate + Drop> Cluster<G> {
         })
     }
 
-    /// Hands a node each frame that comes for it, until the post is closed, as [`Site::pump`] does. [`Cluster::run`] calls
-    /// it. It returns at once if there is no such node.
+    /// Locks a name as [`Cluster::lock_within`] does, and if it comes in time, calls the closure while the client holds
+    /// it, and then unlocks it, as [`Cluster::with_lock`] does. `None` means that the time is over. Then the closure
+    /// was not called, and the client holds nothing.
+    ///
+    /// # Errors
+    ///
+    /// Those of [`Cluster::lock_within`]. The closure was not called.
+    pub fn with_lock_within<R: Wait + Clock, T, F: FnOnce(Grant) -> T + Drop>(
+        &self,
+        rt: &R,
+        alloc: Global,
+        node: NodeId,
+        client: u32,
+        name: Name,
+        mode: Mode,
+        time: Duration,
+        does: F,
+    ) -> Result<Option<Held<T>>, CallError>
+        requires { (grant : Grant) → IsGrantOf node client name mode grant → F.pre does grant }
+        ensures grant { IfOk result (λ held. IfSome held (λ h. IsGrantOf node client name mode h.grant)) }
+        ensures given { IfOk result (λ held. IfSome held (λ h. WasGiven h.grant)) }
+        ensures done { IfOk result (λ held. IfSome held (λ h. F.post does h.grant h.value)) }
+        ensures no_node { IsErrOf result CallError.NoNode ↔ self.now.nodes < node }
+    {
+        let Some((site, sites)) = self.site_among_all(node) else {
+            return Err(CallError::NoNode);
+        };
+        let held = site.lock_within(
+            rt, alloc, client, name, mode, time, &self.post, sites, &self.gate,
+        )?;
+        let Some(grant) = held else {
+            return Ok(None);
+        };
+        // A copy by name, since the prover takes a grant that is given to a call as moved.
+        let given = grant;
+        let value = does(given);
+        let unlocked = site.unlock(rt, alloc, client, name, &self.post, sites, &self.gate);
+        Ok(Some(Held {
+            grant,
+            value,
+            unlocked,
+        }))
+    }
+
+    /// Hands a node each frame that comes for it, until the post is closed, as [`Site::pump`] does. [`Cluster::run`]
+    /// calls it. It returns at once if there is no such node.
     pub fn pump<R: Wait>(&self, rt: &R, alloc: Global, node: NodeId) {
         let Some(inbox) = self.inboxes.get(node.place()) else {
             return;
@@ -357,8 +476,8 @@ impl<G: Gate + Drop> Cluster<G> {
     }
 
     /// Stops each node for this cause, from node 1 up, as [`Site::stop`] does, and then closes the post, which ends the
-    /// threads in [`Cluster::pump`]. A frame that comes to the post later counts as lost. The cost is linear in the number
-    /// of nodes.
+    /// threads in [`Cluster::pump`]. A frame that comes to the post later counts as lost. The cost is linear in the
+    /// number of nodes.
     pub fn stop<R: Wait>(&self, rt: &R, stop: Stop) {
         stop_all(rt, self.sites.as_slice(), stop);
         self.close_post(rt);
@@ -369,12 +488,14 @@ impl<G: Gate + Drop> Cluster<G> {
         self.post.close(rt);
     }
 
-    /// Consumes the cluster, and returns a book for each node, in the order of the nodes, each with its history. They are a cluster,
-    /// as [`settle`](crate::settle) requires. It does not allocate. The cost is linear in the number of nodes.
+    /// Consumes the cluster, and returns a book for each node, in the order of the nodes, each with its history. They
+    /// are a cluster, as [`settle`](crate::settle) requires. It does not allocate. The cost is linear in the number of
+    /// nodes.
     ///
-    /// If a round of an audit has taken the events of a node, its history is not in its book any more. In place of that book
-    /// there is an empty one, which is stopped: for the cause of that book, or with [`Stop::Refused`] if it has none. What no
-    /// round has taken is lost, so end the audit first. [`Cluster::close_audited`] returns the books as they are.
+    /// If a round of an audit has taken the events of a node, its history is not in its book any more. In place of that
+    /// book there is an empty one, which is stopped: for the cause of that book, or with [`Stop::Refused`] if it has
+    /// none. What no round has taken is lost, so end the audit first. [`Cluster::close_audited`] returns the books as
+    /// they are.
     pub fn close(self, alloc: Global) -> Vec<Book>
         ensures cluster { IsCluster result.items }
         ensures count { vec_len result ≡ self.nodes }
@@ -390,10 +511,10 @@ impl<G: Gate + Drop> Cluster<G> {
         books
     }
 
-    /// Consumes a cluster whose audit is ended, and returns as many books as it has nodes, each with its history. They are those of
-    /// the nodes in their order, as they are: with the events that no round has taken. No contract can tell which book was under
-    /// a lock, so `Auditor::check_books` of `ra_audit` looks at that, too, when it tells whether all that they say is in the run.
-    /// It does not allocate. The cost is linear in the number of nodes.
+    /// Consumes a cluster whose audit is ended, and returns as many books as it has nodes, each with its history. They
+    /// are those of the nodes in their order, as they are: with the events that no round has taken. No contract can
+    /// tell which book was under a lock, so `Auditor::check_books` of `ra_audit` looks at that, too, when it tells
+    /// whether all that they say is in the run. It does not allocate. The cost is linear in the number of nodes.
     pub fn close_audited(self) -> Vec<Book>
         ensures count { vec_len result ≡ self.nodes }
         ensures histories { All HasHistory result.items }

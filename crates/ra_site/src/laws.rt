@@ -11,8 +11,8 @@ use ra_node::{
     histories_keep_a_node_consistent,
 };
 
-/// A grant that a book gave is in that book: it is the book of the grant's node, and has the `Entered` mark of the request, as
-/// [`settle`](crate::settle) requires of each grant.
+/// A grant that a book gave is in that book: it is the book of the grant's node, and has the `Entered` mark of the
+/// request, as [`settle`](crate::settle) requires of each grant.
 pub fn given_grants_are_in_books()
     ensures { (grant : Grant) → (giver : Giver grant)
         → (giver.book.me ≡ grant.entry.stamp.node) × HasMark giver.book (Entered grant.entry) }

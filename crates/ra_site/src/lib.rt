@@ -9,13 +9,13 @@
 //! - It makes a [`Cluster`], and has [`Cluster::run`] run its clients: a closure, which may start threads. While the
 //!   closure runs, each node has a thread that carries its frames.
 //! - The clients lock and unlock names with [`Cluster::with_lock`], or with [`Cluster::lock`] and [`Cluster::unlock`],
-//!   and end if a node is stopped.
+//!   and end if a node is stopped. [`Cluster::lock_within`] and [`Cluster::cancel`] end a wait early.
 //! - At the end it closes the cluster, and [`settle`] shows the run. A service that runs for long makes its cluster by
 //!   [`Cluster::new_audited`] instead, and has an auditor of the crate `ra_audit` take what has happened from time to
 //!   time.
 //!
-//! docs/EMBEDDING.md explains the parts of the shortest such program. It also says how to start the threads of the nodes
-//! yourself, and how to use a [`Site`] for each node and the [`Post`] by themselves.
+//! docs/EMBEDDING.md explains the parts of the shortest such program. It also says how to start the threads of the
+//! nodes yourself, and how to use a [`Site`] for each node and the [`Post`] by themselves.
 //!
 //! The crate `ra_cluster` runs scripts on such a cluster.
 #![tactic(auto)]

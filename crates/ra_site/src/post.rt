@@ -68,8 +68,8 @@ impl Drop for Post {
 }
 
 impl Post {
-    /// Makes the post of this many nodes, and as many inboxes, in time linear in them. The inboxes are in the order of the
-    /// nodes, which no clause says.
+    /// Makes the post of this many nodes, and as many inboxes, in time linear in them. The inboxes are in the order of
+    /// the nodes, which no clause says.
     ///
     /// # Errors
     ///

@@ -6,8 +6,9 @@ pub mod sending;
 pub mod stop_causes;
 pub mod take_error;
 pub mod ticket;
+pub mod time_limit;
 
-ghost use Rattle.std.specs.Prelude.{◌≡◌, ◌≤◌, true, false, [], All, IfOk, OnErr};
+ghost use Rattle.std.specs.Prelude.{◌≡◌, ◌≤◌, true, false, [], All, IfOk, IfSome, OnErr};
 ghost use Rattle.ra_stamp.specs.NodeId.{IsNodeNumber};
 ghost use Rattle.ra_frame.specs.Fits.{Fits};
 
@@ -18,26 +19,31 @@ use crate::site::request::Request;
 use crate::site::sending::Sending;
 use crate::site::stop_causes::stop_of;
 use crate::site::ticket::{SharedTicket, Ticket};
+use crate::site::time_limit::TimeLimit;
 use crate::{Book, BookError, Events, Gate, Grant, Inbox, NewError, Post, Stop, TakeError};
 use ra_frame::Frame;
 use ra_stamp::{Entry, Memory, Mode, Name, NodeId};
 use std::alloc::Global;
 use std::marker::Model;
 use std::sync::{Mutex, Wait};
+use std::time::{Clock, Duration};
 use thiserror::Error;
 
-/// Why a call of a site did not do what it is for. Both print the word of what they wrap, and some words are in both: after
-/// `Refused(Memory)` nothing has happened and the call can be made again, after `Stopped(Memory)` the cluster is at its end. So they are
-/// told apart by the variant, and not by what they print.
+/// Why a call of a site did not do what it is for. The first two print the word of what they wrap, and some words are
+/// in both: after `Refused(Memory)` nothing has happened and the call can be made again, after `Stopped(Memory)` the
+/// cluster is at its end. So they are told apart by the variant, and not by what they print.
 #[derive(Clone, Copy, Debug, PartialEq, Eq, Error)]
 pub enum SiteError {
-    /// The book of the node refused it, and is as before. If the cause is `Failed`, the node was stopped before; after any other
-    /// one it goes on.
+    /// The book of the node refused it, and is as before. If the cause is `Failed`, the node was stopped before; after
+    /// any other one it goes on.
     #[error(transparent)]
     Refused(BookError),
     /// The node is stopped, for this cause, and takes no call any more.
     #[error(transparent)]
     Stopped(Stop),
+    /// The client gave up before it was let in.
+    #[error("Cancelled")]
+    Cancelled,
 }
 
 impl From<BookError> for SiteError {
@@ -51,22 +57,23 @@ impl From<BookError> for SiteError {
     }
 }
 
-/// A node that threads share: its number, and its book under a lock, with the clients that wait. Contracts see the number, and
-/// whether an auditor takes what happens at it.
+/// A node that threads share: its number, and its book under a lock, with the clients that wait. Contracts see the
+/// number, and whether an auditor takes what happens at it.
 ///
-/// Besides what the book's call takes, `lock`, `unlock` and `pump` take the post that carries the frames, the sites of all
-/// nodes in order, and the gate that watches. Their contracts require these sites, since a lost frame has to stop them all;
-/// [`is_site_of`](crate::is_site_of) tests it. Under the lock these calls ask the gate and call the book. The frames are
-/// sent after the lock is given back, and no thread ever has the locks of two books. A frame that the post does not take is
-/// flagged as lost, and then each site is stopped, which ends the waits of all clients. A round of an audit waits until all
-/// frames of such a call were tried, so each loss is flagged when it takes what the book has.
+/// Besides what the book's call takes, `lock`, `lock_within`, `cancel`, `unlock` and `pump` take the post that carries
+/// the frames, the sites of all nodes in order, and the gate that watches. Their contracts require these sites, since a
+/// lost frame has to stop them all; [`is_site_of`](crate::is_site_of) tests it. Under the lock these calls ask the gate
+/// and call the book. The frames are sent after the lock is given back, and no thread ever has the locks of two books.
+/// A frame that the post does not take is flagged as lost, and then each site is stopped, which ends the waits of all
+/// clients. A round of an audit waits until all frames of such a call were tried, so each loss is flagged when it takes
+/// what the book has.
 ///
-/// A client that waits has a ticket of its own. When an event lets it in, its thread is told by this ticket after the lock
-/// is given back, and no other thread is woken. A stop wakes all.
+/// A client that waits has a ticket of its own. When an event lets it in, its thread is told by this ticket after the
+/// lock is given back, and no other thread is woken. A stop wakes all.
 ///
-/// Each such call costs what the book's call costs and the sending of the frames. If its event lets a client in, it also
-/// takes time linear in the number of clients that wait at the node. For each frame that the post does not take, it also
-/// costs what [`Book::mark_lost`] costs.
+/// Each such call costs what the book's call costs and the sending of the frames. If its event lets a client in, it
+/// also takes time linear in the number of clients that wait at the node. For each frame that the post does not take,
+/// it also costs what [`Book::mark_lost`] costs.
 pub struct Site {
     node: NodeId,
     alloc: Global,
@@ -101,8 +108,8 @@ impl Site {
     ghost use Rattle.ra_site.specs.Handing.{IsHandedOver, OnlyTurnOrMemory};
     ghost use Rattle.ra_site.specs.Sites.{AreSitesWith, IsWholeBookOf, site_at};
 
-    /// Makes the site of node `me` of `nodes`, with a book in which nothing has happened yet. The highest number of each
-    /// resource begins at `start`, 0 to 2^64-1, which is to be the same at all nodes. It does not allocate.
+    /// Makes the site of node `me` of `nodes`, with a book in which nothing has happened yet. The highest number of
+    /// each resource begins at `start`, 0 to 2^64-1, which is to be the same at all nodes. It does not allocate.
     ///
     /// # Errors
     ///
@@ -138,20 +145,21 @@ impl Site {
         self.node
     }
 
-    /// Asks for a name for a client, and waits until the client holds it. Nothing bounds the wait. Clients that hold names
-    /// while they ask for others may wait for each other forever, unless all take their names in one order. A client that
-    /// queues after another of its node gets its number when its turn comes. If the last one, 2^64-1, is used by then, its
-    /// turn never comes, and it waits until somebody stops the node.
+    /// Asks for a name for a client, and waits until the client holds it. Nothing bounds the wait. Clients that hold
+    /// names while they ask for others may wait for each other forever, unless all take their names in one order. A
+    /// client that queues after another of its node gets its number when its turn comes. If the last one, 2^64-1, is
+    /// used by then, its turn never comes, and it waits until somebody stops the node.
     ///
     /// # Errors
     ///
     /// The first that comes:
     ///
-    /// 1. `Stopped`: the gate answered `false`. Nothing was asked. The cause is the one that the node keeps, of an earlier
-    ///    stop if there was one.
-    /// 2. `Refused`: the book refused it, as [`Book::ask`] says, with `Failed` if the node was stopped before. Nothing was
-    ///    asked. `Memory` also comes if there is none for the wait.
-    /// 3. `Stopped`: the node was stopped before the client was let in, and its request stays in the book.
+    /// 1. `Stopped`: the gate answered `false`. Nothing was asked. The cause is the one that the node keeps, of an
+    ///    earlier stop if there was one.
+    /// 2. `Refused`: the book refused it, as [`Book::ask`] says, with `Failed` if the node was stopped before. Nothing
+    ///    was asked. `Memory` also comes if there is none for the wait.
+    /// 3. `Stopped`: the node was stopped before the client was let in, and its request stays in the book. `Cancelled`:
+    ///    the client gave up before, by [`Site::cancel`] on another thread.
     pub fn lock<R: Wait, G: Gate>(
         &self,
         rt: &R,
@@ -181,14 +189,164 @@ impl Site {
         self.wait_for_grant(rt, ticket.as_ref(), &request)
     }
 
+    /// Asks for a name for a client as `lock` does, and waits until the client holds it or the time is over. Then the
+    /// client gives up, and holds nothing, unless it was let in meanwhile. With more than one node no client is let in
+    /// by its own ask, so a time of zero mostly ends without a lock. If the clock can't be read, the time is over.
+    ///
+    /// # Errors
+    ///
+    /// Those of `lock`. If no clock is left for the event in which the client gives up, each site is stopped with
+    /// `Clock`, and the answer is `Stopped`.
+    pub fn lock_within<R: Wait + Clock, G: Gate>(
+        &self,
+        rt: &R,
+        alloc: Global,
+        client: u32,
+        name: Name,
+        mode: Mode,
+        time: Duration,
+        post: &Post,
+        sites: &[Site],
+        gate: &G,
+    ) -> Result<Option<Grant>, SiteError>
+        requires { AreSitesWith self.now sites.now }
+        ensures grant { IfOk result (λ held. IfSome held (IsGrantOf self.now.node client name mode)) }
+        ensures given { IfOk result (λ held. IfSome held WasGiven) }
+    {
+        let limit = TimeLimit::new(rt, time);
+        let request = Request { client, name, mode };
+        let ticket = Ticket::new(alloc);
+        let made = {
+            let _share = self.sending.share(rt);
+            let asked = self
+                .desk
+                .lock(rt)
+                .ask(alloc, self.node, gate, &request, ticket.as_ref());
+            self.finish(rt, alloc, asked, post)
+        };
+        self.answer(rt, made, sites)?;
+        let Some(ticket) = ticket.as_ref() else {
+            return Err(SiteError::Refused(BookError::Memory));
+        };
+        match ticket.wait_within(rt, self.node, &request, &limit) {
+            Some(Ok(grant)) => Ok(Some(grant)),
+            Some(Err(why)) => Err(why),
+            None => self.give_up(rt, alloc, &request, ticket, post, sites, gate),
+        }
+    }
+
+    /// Gives up this request, whose time is over, and returns `None`, or its grant if it was let in meanwhile. The race
+    /// is decided under the lock of the book, by the ticket: the client may ask again on another thread.
+    ///
+    /// # Errors
+    ///
+    /// Those of `lock_within`.
+    fn give_up<R: Wait, G: Gate>(
+        &self,
+        rt: &R,
+        alloc: Global,
+        request: &Request,
+        ticket: &SharedTicket,
+        post: &Post,
+        sites: &[Site],
+        gate: &G,
+    ) -> Result<Option<Grant>, SiteError>
+        requires { AreSitesWith self.now sites.now }
+        ensures grant { IfOk result (λ held.
+            IfSome held (IsGrantOf self.now.node request.now.client request.now.name request.now.mode)) }
+        ensures given { IfOk result (λ held. IfSome held WasGiven) }
+    {
+        let made = {
+            let _share = self.sending.share(rt);
+            let given_up = self
+                .desk
+                .lock(rt)
+                .give_up(alloc, self.node, gate, request, ticket);
+            self.finish(rt, alloc, given_up, post)
+        };
+        let Err(refused) = self.answer(rt, made, sites) else {
+            return Ok(None);
+        };
+        if refused == SiteError::Refused(BookError::ClockFull) {
+            stop_all(rt, sites, Stop::Clock);
+        }
+        // The client was let in, or somebody else gave up for it, or the node is stopped: its thread is told which it
+        // was.
+        match ticket.wait(rt, self.node, request) {
+            Ok(grant) => Ok(Some(grant)),
+            Err(why) => Err(why),
+        }
+    }
+
+    /// Gives up a name for which a client waits or is queued: its request is withdrawn, or it leaves the queue. The
+    /// thread that waits for it wakes, and its call answers `Cancelled`. This call waits for locks alone.
+    ///
+    /// # Errors
+    ///
+    /// The first that holds, and nothing was given up. If the book took the cancel, the answer is `Ok`, even if the
+    /// node is stopped by then.
+    ///
+    /// 1. `Stopped`: the gate answered `false`. The cause is the one that the node keeps, of an earlier stop if there
+    ///    was one.
+    /// 2. `Refused`: the book refused it, as [`Book::cancel`] says, with `Failed` if the node was stopped before. After
+    ///    `NotWaiting` the client may hold the name.
+    pub fn cancel<R: Wait, G: Gate>(
+        &self,
+        rt: &R,
+        alloc: Global,
+        client: u32,
+        name: Name,
+        post: &Post,
+        sites: &[Site],
+        gate: &G,
+    ) -> Result<(), SiteError>
+        requires { AreSitesWith self.now sites.now }
+    {
+        let made = {
+            let _share = self.sending.share(rt);
+            let given_up = self
+                .desk
+                .lock(rt)
+                .cancel(alloc, self.node, gate, client, name);
+            self.finish(rt, alloc, given_up, post)
+        };
+        self.answer(rt, made, sites)
+    }
+
+    /// Forgets the names that the node need not keep, as [`Book::forget`] says. It waits for locks alone.
+    ///
+    /// # Errors
+    ///
+    /// The first that holds, and nothing was forgotten:
+    ///
+    /// 1. `Stopped`: the gate answered `false`. The cause is the one that the node keeps, of an earlier stop if there
+    ///    was one.
+    /// 2. `Refused`: the book refused it, as [`Book::forget`] says, with `Failed` if the node was stopped before.
+    pub fn forget<R: Wait, G: Gate>(
+        &self,
+        rt: &R,
+        alloc: Global,
+        sites: &[Site],
+        gate: &G,
+    ) -> Result<(), SiteError>
+        requires { AreSitesWith self.now sites.now }
+    {
+        let forgot = self.desk.lock(rt).forget(alloc, self.node, gate);
+        match forgot {
+            Ok(()) => Ok(()),
+            Err(refused) => Err(self.refusal(rt, refused, sites)),
+        }
+    }
+
     /// Gives back the name that a client holds. It waits for locks alone.
     ///
     /// # Errors
     ///
-    /// The first that holds, and nothing was given back. If the book took the leave, the answer is `Ok`, even if the node is
-    /// stopped by then.
+    /// The first that holds, and nothing was given back. If the book took the leave, the answer is `Ok`, even if the
+    /// node is stopped by then.
     ///
-    /// 1. `Stopped`: the gate answered `false`. The cause is the one that the node keeps, of an earlier stop if there was one.
+    /// 1. `Stopped`: the gate answered `false`. The cause is the one that the node keeps, of an earlier stop if there
+    ///    was one.
     /// 2. `Refused`: the book refused it, as [`Book::leave`] says, with `Failed` if the node was stopped before.
     pub fn unlock<R: Wait, G: Gate>(
         &self,
@@ -213,12 +371,13 @@ impl Site {
         self.answer(rt, made, sites)
     }
 
-    /// Hands the book each frame that comes into the inbox, until the post is closed and the inbox empty, or the book or the
-    /// gate refuses a frame. Frames that have come together are taken at once, up to 64, and handed to the book under one
-    /// taking of the lock; the gate is asked before each. Those after a refused one are dropped, and count as under way.
+    /// Hands the book each frame that comes into the inbox, until the post is closed and the inbox empty, or the book
+    /// or the gate refuses a frame. Frames that have come together are taken at once, up to 64, and handed to the book
+    /// under one taking of the lock; the gate is asked before each. Those after a refused one are dropped, and count as
+    /// under way.
     ///
-    /// A refusal stops each site, for a cause that says which it was, unless the book was stopped before. A stop does not end
-    /// the pump by itself, but by the next frame: close the post.
+    /// A refusal stops each site, for a cause that says which it was, unless the book was stopped before. A stop does
+    /// not end the pump by itself, but by the next frame: close the post.
     pub fn pump<R: Wait, G: Gate>(
         &self,
         rt: &R,
@@ -252,18 +411,18 @@ impl Site {
         }
     }
 
-    /// Stops the node for this cause, unless it is stopped already, and wakes all clients that wait at it. They get `Stopped`,
-    /// and a client that calls from then on gets `Refused` with `Failed`. Its pump ends when the post is closed. It waits for the
-    /// lock, and does not allocate. The cost is linear in the number of clients that wait.
+    /// Stops the node for this cause, unless it is stopped already, and wakes all clients that wait at it. They get
+    /// `Stopped`, and a client that calls from then on gets `Refused` with `Failed`. Its pump ends when the post is
+    /// closed. It waits for the lock, and does not allocate. The cost is linear in the number of clients that wait.
     pub fn stop<R: Wait>(&self, rt: &R, stop: Stop) {
         let (cause, waiters) = self.desk.lock(rt).fail(self.alloc, stop);
         for waiter in &waiters {
-            waiter.ticket.tell(rt, Err(cause));
+            waiter.ticket.tell(rt, Err(SiteError::Stopped(cause)));
         }
     }
 
-    /// Returns the cause for which the node is stopped, or `None` if it goes on. Like each of these readers, it tells what is so
-    /// when it has the lock. It waits for the lock, and does not allocate.
+    /// Returns the cause for which the node is stopped, or `None` if it goes on. Like each of these readers, it tells
+    /// what is so when it has the lock. It waits for the lock, and does not allocate.
     pub fn fault<R: Wait>(&self, rt: &R) -> Option<Stop> {
         self.desk.lock(rt).book.fault()
     }
@@ -288,24 +447,25 @@ impl Site {
         self.desk.lock(rt).book.events().len()
     }
 
-    /// Returns the clock of the last event of this node, or 0 before the first. It rises with each event, whether or not an audit
-    /// took those before.
+    /// Returns the clock of the last event of this node, or 0 before the first. It rises with each event, whether or
+    /// not an audit took those before.
     pub fn clock<R: Wait>(&self, rt: &R) -> u64 {
         self.desk.lock(rt).book.clock()
     }
 
-    /// Hands over the events after one with the clock `after`, or from the first one on if it is 0, and the frames that were lost
-    /// since the round before. It is for an auditor alone, which takes them: they leave the book, which no clause says, since no
-    /// contract tells what is under a lock. A node that is not audited hands over nothing.
+    /// Hands over the events after one with the clock `after`, or from the first one on if it is 0, and the frames that
+    /// were lost since the round before. It is for an auditor alone, which takes them: they leave the book, which no
+    /// clause says, since no contract tells what is under a lock. A node that is not audited hands over nothing.
     ///
-    /// It waits until no thread is sending what the book handed out, while calls that come later wait for it. Then it waits for
-    /// the lock, and has it for a time that does not grow with the history, unless a frame was lost.
+    /// It waits until no thread is sending what the book handed out, while calls that come later wait for it. Then it
+    /// waits for the lock, and has it for a time that does not grow with the history, unless a frame was lost.
     ///
     /// # Errors
     ///
     /// The first that holds, and the node still has its events and losses:
     ///
-    /// 1. `OutOfTurn`: at an audited node, `after` is not the clock of the last event that was handed over, or 0 before the first.
+    /// 1. `OutOfTurn`: at an audited node, `after` is not the clock of the last event that was handed over, or 0 before
+    ///    the first.
     /// 2. `Memory`: memory ran out, at an audited node.
     pub fn hand_over<R: Wait>(&self, rt: &R, alloc: Global, after: u64) -> Result<Handed, TakeError>
         ensures handed { IfOk result (λ handed. IsHandedOver self.now after handed.events.items handed.lost.items) }
@@ -323,8 +483,8 @@ impl Site {
                     lost: Vec::new(alloc),
                 });
             };
-            // The book is always that of this node, but no contract tells what is under a lock. The lock is given back at the end
-            // of this statement.
+            // The book is always that of this node, but no contract tells what is under a lock. The lock is given back
+            // at the end of this statement.
             let made = self.desk.lock(rt).hand_over(alloc, self.node, after);
             made
         };
@@ -348,9 +508,10 @@ impl Site {
         book
     }
 
-    /// Does the same for a site that is one of this many, from this start. No contract tells what is under a lock, so the book is
-    /// looked at. If it is not whole, an empty book of the node is returned, which is stopped: for the cause of the book, or
-    /// `Refused` if it has none. It would do the same with the book of another node or cluster, which is never there.
+    /// Does the same for a site that is one of this many, from this start. No contract tells what is under a lock, so
+    /// the book is looked at. If it is not whole, an empty book of the node is returned, which is stopped: for the
+    /// cause of the book, or `Refused` if it has none. It would do the same with the book of another node or cluster,
+    /// which is never there.
     pub(crate) fn close_as(self, alloc: Global, nodes: u16, start: u64) -> Book
         requires count { IsNodeNumber nodes }
         requires member { self.node ≤ nodes }
@@ -365,8 +526,8 @@ impl Site {
         stopped_book(alloc, me, nodes, start, cause)
     }
 
-    /// Hands the book frames, and sends those of their events, with no round of an audit in between. Puts what came of each into
-    /// the list. Returns whether all were sent, and if one was not received, why; those before it were.
+    /// Hands the book frames, and sends those of their events, with no round of an audit in between. Puts what came of
+    /// each into the list. Returns whether all were sent, and if one was not received, why; those before it were.
     fn carry<R: Wait, G: Gate>(
         &self,
         rt: &R,
@@ -406,7 +567,8 @@ impl Site {
         Ok(self.tell_and_send(rt, alloc, &stepped, post))
     }
 
-    /// Tells the client that an event let in, and sends the event's frames. Returns whether all were sent.
+    /// Tells the client that an event let in and the one that gave up in it, and sends the event's frames. Returns
+    /// whether all were sent.
     fn tell_and_send<R: Wait>(
         &self,
         rt: &R,
@@ -417,10 +579,14 @@ impl Site {
         if let Some((ticket, grant)) = &stepped.told {
             ticket.tell(rt, Ok(*grant));
         }
+        if let Some(ticket) = &stepped.given_up {
+            ticket.tell(rt, Err(SiteError::Cancelled));
+        }
         self.send(rt, alloc, stepped.frames.as_slice(), post)
     }
 
-    /// Returns what a call answers. If one of its frames was not sent, or the gate stopped it, each site is stopped first.
+    /// Returns what a call answers. If one of its frames was not sent, or the gate stopped it, each site is stopped
+    /// first.
     ///
     /// # Errors
     ///
@@ -476,7 +642,7 @@ impl Site {
     /// The first that comes:
     ///
     /// 1. `Refused` with `Memory`: there is no ticket.
-    /// 2. `Stopped`: the node was stopped before the client was let in.
+    /// 2. `Stopped`, `Cancelled`: the node was stopped, or the client gave up, before it was let in.
     fn wait_for_grant<R: Wait>(
         &self,
         rt: &R,
@@ -489,9 +655,6 @@ impl Site {
         let Some(ticket) = ticket else {
             return Err(SiteError::Refused(BookError::Memory));
         };
-        match ticket.wait(rt, self.node, request) {
-            Ok(grant) => Ok(grant),
-            Err(stop) => Err(SiteError::Stopped(stop)),
-        }
+        ticket.wait(rt, self.node, request)
     }
 }

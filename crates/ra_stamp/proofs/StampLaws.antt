@@ -5,7 +5,7 @@ use Rattle.std.proofs.lemmas.Bool.{true≢false}
 use Rattle.std.proofs.lemmas.Grind.{common_steps}
 use Rattle.ra_stamp.specs.declared.entry.Entry.{Entry}
 use Rattle.ra_stamp.specs.declared.entry.Mark.{Mark}
-use Rattle.ra_stamp.specs.declared.entry.Mark.TheVariants.{Requested, Entered, Left}
+use Rattle.ra_stamp.specs.declared.entry.Mark.TheVariants.{Requested, Entered, Left, Withdrawn}
 use Rattle.ra_stamp.specs.declared.message.Message.{Message}
 use Rattle.ra_stamp.specs.declared.mode.Mode.{Mode}
 use Rattle.ra_stamp.specs.declared.stamp.Stamp.{Stamp}
@@ -37,9 +37,16 @@ pub same_marks : (a b : Mark) → IsTrue (marks.ghosts.eq a b) ↔ (a ≡ b)
 same_marks (Requested a) (Requested b) = (λ h. ap Requested ((same_entries a b).0 h), λ h. (same_entries a b).1 (cc))
 same_marks (Requested a) (Entered b) = (λ h. absurd (true≢false (sym h)), λ h. cc)
 same_marks (Requested a) (Left b) = (λ h. absurd (true≢false (sym h)), λ h. cc)
+same_marks (Requested a) (Withdrawn b) = (λ h. absurd (true≢false (sym h)), λ h. cc)
 same_marks (Entered a) (Requested b) = (λ h. absurd (true≢false (sym h)), λ h. cc)
 same_marks (Entered a) (Entered b) = (λ h. ap Entered ((same_entries a b).0 h), λ h. (same_entries a b).1 (cc))
 same_marks (Entered a) (Left b) = (λ h. absurd (true≢false (sym h)), λ h. cc)
+same_marks (Entered a) (Withdrawn b) = (λ h. absurd (true≢false (sym h)), λ h. cc)
 same_marks (Left a) (Requested b) = (λ h. absurd (true≢false (sym h)), λ h. cc)
 same_marks (Left a) (Entered b) = (λ h. absurd (true≢false (sym h)), λ h. cc)
 same_marks (Left a) (Left b) = (λ h. ap Left ((same_entries a b).0 h), λ h. (same_entries a b).1 (cc))
+same_marks (Left a) (Withdrawn b) = (λ h. absurd (true≢false (sym h)), λ h. cc)
+same_marks (Withdrawn a) (Requested b) = (λ h. absurd (true≢false (sym h)), λ h. cc)
+same_marks (Withdrawn a) (Entered b) = (λ h. absurd (true≢false (sym h)), λ h. cc)
+same_marks (Withdrawn a) (Left b) = (λ h. absurd (true≢false (sym h)), λ h. cc)
+same_marks (Withdrawn a) (Withdrawn b) = (λ h. ap Withdrawn ((same_entries a b).0 h), λ h. (same_entries a b).1 (cc))

@@ -9,8 +9,8 @@ use std::fmt;
 pub struct Entry {
     /// The resource.
     pub name: Name,
-    /// How the resource is locked. It comes second, since a name has an odd number of bytes: a copy of an entry is faster if the gap
-    /// before the next number is not of seven bytes, which are moved by two stores that overlap.
+    /// How the resource is locked. It comes second, since a name has an odd number of bytes: a copy of an entry is
+    /// faster if the gap before the next number is not of seven bytes, which are moved by two stores that overlap.
     pub mode: Mode,
     /// When it was made, and at which node.
     pub stamp: Stamp,
@@ -18,7 +18,8 @@ pub struct Entry {
     pub client: u32,
 }
 
-/// What became of an entry. It prints as a word and the entry: `request 1 7 r X 3`, `enter ..` or `leave ..`.
+/// What became of an entry. It prints as a word and the entry: `request 1 7 r X 3`, `enter ..`, `leave ..` or
+/// `withdraw ..`.
 #[derive(Clone, Copy, Debug, PartialEq, Eq)]
 pub enum Mark {
     /// It was stamped, and waits from then on.
@@ -27,10 +28,12 @@ pub enum Mark {
     Entered(Entry),
     /// It was given back.
     Left(Entry),
+    /// It was given up while it waited.
+    Withdrawn(Entry),
 }
 
 impl Mark {
-    /// Returns its word: `request`, `enter` or `leave`. It does not allocate.
+    /// Returns its word: `request`, `enter`, `leave` or `withdraw`. It does not allocate.
     pub fn word(&self) -> &'static str
         ensures { result.now ≡ mark_word self.now }
     {
@@ -38,6 +41,7 @@ impl Mark {
             Mark::Requested(_) => "request",
             Mark::Entered(_) => "enter",
             Mark::Left(_) => "leave",
+            Mark::Withdrawn(_) => "withdraw",
         }
     }
 
@@ -46,7 +50,10 @@ impl Mark {
         ensures { result.now ≡ entry_of_mark self.now }
     {
         match self {
-            Mark::Requested(entry) | Mark::Entered(entry) | Mark::Left(entry) => entry,
+            Mark::Requested(entry)
+            | Mark::Entered(entry)
+            | Mark::Left(entry)
+            | Mark::Withdrawn(entry) => entry,
         }
     }
 }

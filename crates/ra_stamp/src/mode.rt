@@ -4,8 +4,9 @@ ghost use Rattle.ra_stamp.specs.Mode as spec;
 use Mode::{Exclusive, IntentExclusive, IntentShared, Shared, SharedIntentExclusive};
 use std::fmt;
 
-/// How a resource is locked. The modes are those of J. N. Gray, R. A. Lorie, G. R. Putzolu and I. L. Traiger, Granularity of locks and
-/// degrees of consistency in a shared data base (1976). It prints as its word: `S`, `X`, `IS`, `IX` or `SIX`.
+/// How a resource is locked. The modes are those of J. N. Gray, R. A. Lorie, G. R. Putzolu and I. L. Traiger,
+/// Granularity of locks and degrees of consistency in a shared data base (1976). It prints as its word: `S`, `X`, `IS`,
+/// `IX` or `SIX`.
 #[derive(Clone, Copy, Debug, PartialEq, Eq, Hash)]
 pub enum Mode {
     /// To read it whole.
@@ -22,7 +23,8 @@ pub enum Mode {
 
 /// Returns whether two modes exclude each other. It does not allocate.
 ///
-/// Of the 25 pairs nine do not: two of `IS`, two of `IX`, two of `S`, and `IS` beside each of `IX`, `S` and `SIX`, in either order.
+/// Of the 25 pairs nine do not: two of `IS`, two of `IX`, two of `S`, and `IS` beside each of `IX`, `S` and `SIX`, in
+/// either order.
 #[tactic(auto, unfolding(crate::specs::Mode::compatible))]
 pub fn conflicts(a: Mode, b: Mode) -> bool
     ensures { result ≡ spec.conflicts a b }

@@ -98,8 +98,8 @@ impl Name {
         }
     }
 
-    /// Makes the name of these bytes, or returns `None` if they are not one. It does not allocate. For what is read line by line it
-    /// is faster than [`Name::new`], whose answer has the name and its fault at one place in memory.
+    /// Makes the name of these bytes, or returns `None` if they are not one. It does not allocate. For what is read
+    /// line by line it is faster than [`Name::new`], whose answer has the name and its fault at one place in memory.
     #[inline(always)]
     pub fn of(bytes: &[u8]) -> Option<Name>
         ensures some { IsSome result ↔ IsName bytes.now }

@@ -53,7 +53,8 @@ impl NodeId {
         usize::from(self.number) - 1
     }
 
-    /// Returns the node at a place among the nodes, counted from 0, so that `place` gives the place again. It does not allocate.
+    /// Returns the node at a place among the nodes, counted from 0, so that `place` gives the place again. It does not
+    /// allocate.
     #[inline(always)]
     pub fn at(place: usize) -> NodeId
         requires { place < 64 }

@@ -73,8 +73,8 @@ Contains-among : (some all : List Entry) (e : Entry) → some ≡ on_name e.name
 Contains-among some all e on = subst (λ (l : List Entry). Contains l e ↔ Contains all e) (sym on) (Contains-on all e)
 
 module _ (name_table table : LockTable) (e : Entry) (shows : Shows e.name name_table table) where
-  waits : Contains name_table.waiting e ↔ Contains table.waiting e
-  waits = Contains-among name_table.waiting table.waiting e shows.waiting
+  pub name_table_waits : Contains name_table.waiting e ↔ Contains table.waiting e
+  name_table_waits = Contains-among name_table.waiting table.waiting e shows.waiting
 
   pub name_table_holds : Contains name_table.holding e ↔ Contains table.holding e
   name_table_holds = Contains-among name_table.holding table.holding e shows.holding
@@ -110,8 +110,8 @@ module _ (name_table table : LockTable) (e : Entry) (shows : Shows e.name name_t
 
   pub may_enter : MayEnter name_table e ↔ MayEnter table e
   may_enter = (
-    λ may. MayEnter-not_refused table e (waits.0 may.waits) (λ held. MayEnter-not_held name_table e may (is_held.1 held)) (λ earlier. MayEnter-no_earlier name_table e may (has_earlier.1 earlier)),
-    λ may. MayEnter-not_refused name_table e (waits.1 may.waits) (λ held. MayEnter-not_held table e may (is_held.0 held)) (λ earlier. MayEnter-no_earlier table e may (has_earlier.0 earlier)),
+    λ may. MayEnter-not_refused table e (name_table_waits.0 may.waits) (λ held. MayEnter-not_held name_table e may (is_held.1 held)) (λ earlier. MayEnter-no_earlier name_table e may (has_earlier.1 earlier)),
+    λ may. MayEnter-not_refused name_table e (name_table_waits.1 may.waits) (λ held. MayEnter-not_held table e may (is_held.0 held)) (λ earlier. MayEnter-no_earlier table e may (has_earlier.0 earlier)),
   )
 
   refused_above : ((IsNodeBusy name_table e → ⊥) × IsNotAbove name_table e) ↔ ((IsNodeBusy table e → ⊥) × IsNotAbove table e)
@@ -125,15 +125,15 @@ module _ (name_table table : LockTable) (e : Entry) (shows : Shows e.name name_t
   }
 
   not_there : (Contains name_table.waiting e → ⊥) ↔ (Contains table.waiting e → ⊥)
-  not_there = (λ none at. none (waits.1 at), λ none at. none (waits.0 at))
+  not_there = (λ none at. none (name_table_waits.1 at), λ none at. none (name_table_waits.0 at))
 
   refused_held : (Contains name_table.waiting e × IsHeld name_table e) ↔ (Contains table.waiting e × IsHeld table e)
-  refused_held = (λ h. (waits.0 h.0, is_held.0 h.1), λ h. (waits.1 h.0, is_held.1 h.1))
+  refused_held = (λ h. (name_table_waits.0 h.0, is_held.0 h.1), λ h. (name_table_waits.1 h.0, is_held.1 h.1))
 
   refused_earlier : (Contains name_table.waiting e × (IsHeld name_table e → ⊥) × HasEarlier name_table e) ↔ (Contains table.waiting e × (IsHeld table e → ⊥) × HasEarlier table e)
   refused_earlier = (
-    λ h. (waits.0 h.0, (λ held. h.1 (is_held.1 held)), has_earlier.0 h.2),
-    λ h. (waits.1 h.0, (λ held. h.1 (is_held.0 held)), has_earlier.1 h.2),
+    λ h. (name_table_waits.0 h.0, (λ held. h.1 (is_held.1 held)), has_earlier.0 h.2),
+    λ h. (name_table_waits.1 h.0, (λ held. h.1 (is_held.0 held)), has_earlier.1 h.2),
   )
 
   pub enter_tells : (result : Result (Unit {0}) EnterError) → EnterTells result name_table e → EnterTells result table e

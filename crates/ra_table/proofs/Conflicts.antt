@@ -4,7 +4,7 @@ use Rattle.std.specs.Prelude.{◌⊎◌}
 use Rattle.std.proofs.lemmas.List.Elements.{All-nil, All-weaker}
 use Rattle.ra_stamp.specs.declared.entry.Entry.{Entry}
 use Rattle.ra_stamp.specs.declared.entry.Mark.{Mark}
-use Rattle.ra_stamp.specs.declared.entry.Mark.TheVariants.{Requested, Entered, Left}
+use Rattle.ra_stamp.specs.declared.entry.Mark.TheVariants.{Requested, Entered, Left, Withdrawn}
 use Rattle.ra_stamp.specs.declared.mode.Mode.{Mode}
 use Rattle.ra_stamp.specs.declared.stamp.Stamp.{Stamp}
 use Rattle.ra_stamp.specs.Mode.{compatible, Conflict}
@@ -44,6 +44,7 @@ step_conflict_free symmetric old new (Entered e) step free =
 step_conflict_free symmetric old new (Left e) step free =
     let before : Apart DoesNotExclude (step.2.0 ++ e ∷ step.2.1) = subst (Apart DoesNotExclude) step.2.3 free in
     rw step.2.2 (Apart-taken DoesNotExclude step.2.0 step.2.1 e before)
+step_conflict_free symmetric old new (Withdrawn e) step free = rw step.2 free
 
 -- whether two modes conflict does not depend on their order
 conflict_flips : ConflictIsSymmetric
@@ -106,6 +107,9 @@ step_behind symmetric total old new (Entered e) step ordered =
     let before : All (λ g. All (IsBehind g) (step.1.0 ++ e ∷ step.1.1)) (step.3.0 ++ step.3.1) = rw (← step.1.3, ← step.3.2) ordered.behind in
     rw (step.1.2, step.3.3) (behind_entered symmetric total step.1.0 step.1.1 step.3.0 step.3.1 e apart no_earlier before)
 step_behind symmetric total old new (Left e) step ordered = rw (step.1, step.3) ordered.behind
+step_behind symmetric total old new (Withdrawn e) step ordered =
+    let before : All (λ g. All (IsBehind g) (step.1.0 ++ e ∷ step.1.1)) old.granted = subst (λ (w : List Entry). All (λ g. All (IsBehind g) w) old.granted) step.1.3 ordered.behind in
+    rw (step.1.2, step.3) (λ k d lt. All-taken (IsBehind (get_or old.granted k d)) step.1.0 step.1.1 e (before k d lt))
 
 pub step_ordered : ConflictIsSymmetric → StampsAreTotal → (old new : LockTable) (mark : Mark) → TableStep old mark new → IsOrdered old → IsOrdered new
 step_ordered symmetric total old new mark step ordered =

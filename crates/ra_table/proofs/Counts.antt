@@ -3,7 +3,7 @@ use Rattle.std.proofs.Common.{◌≡◌, suc, List, [], ◌∷◌, length, sym, 
 use Rattle.std.proofs.lemmas.List.{length-append}
 use Rattle.ra_stamp.specs.declared.entry.Entry.{Entry}
 use Rattle.ra_stamp.specs.declared.entry.Mark.{Mark}
-use Rattle.ra_stamp.specs.declared.entry.Mark.TheVariants.{Requested, Entered, Left}
+use Rattle.ra_stamp.specs.declared.entry.Mark.TheVariants.{Requested, Entered, Left, Withdrawn}
 use Rattle.ra_table.specs.Table.{LockTable, Gains, TableStep, TableSteps}
 
 -- as many entries wait, hold and were granted in the one table as in the other
@@ -36,6 +36,11 @@ step_counts a b a' b' (Entered e) step step' same = record {
 step_counts a b a' b' (Left e) step step' same = record {
   waiting = rw (step.1, step'.1) same.waiting;
   holding = both_lose a.holding b.holding a'.holding b'.holding e same.holding step.2 step'.2;
+  granted = rw (step.3, step'.3) same.granted;
+}
+step_counts a b a' b' (Withdrawn e) step step' same = record {
+  waiting = both_lose a.waiting b.waiting a'.waiting b'.waiting e same.waiting step.1 step'.1;
+  holding = rw (step.2, step'.2) same.holding;
   granted = rw (step.3, step'.3) same.granted;
 }
 

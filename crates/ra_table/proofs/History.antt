@@ -5,7 +5,7 @@ use Rattle.std.proofs.lemmas.Option.{same_Some}
 use Rattle.std.proofs.lemmas.List.Elements.{All-contains}
 use Rattle.ra_stamp.specs.declared.entry.Entry.{Entry}
 use Rattle.ra_stamp.specs.declared.entry.Mark.{Mark}
-use Rattle.ra_stamp.specs.declared.entry.Mark.TheVariants.{Requested, Entered, Left}
+use Rattle.ra_stamp.specs.declared.entry.Mark.TheVariants.{Requested, Entered, Left, Withdrawn}
 use Rattle.ra_table.specs.Table.{LockTable, empty_table, TableStep, TableSteps, TableRun}
 use Rattle.ra_table.specs.Laws.{IsAt, WaitsSince, HoldsSince, SameEntries}
 use Rattle.ra_table.proofs.Apart.{All-apart, Contains-there, Contains-put, Contains-cases}
@@ -65,36 +65,64 @@ is_since P on Off lasts (m ∷ ms) old new zero steps there none =
 is_since P on Off lasts (m ∷ ms) old new (suc place) steps there none =
     is_since P on Off lasts ms steps.0 new place steps.2 there (none_rest Off m ms (suc place) none)
 
--- ---- waiting, from the request to the grant
+-- ---- waiting, from the request to the grant or the withdrawal
 
 abbrev Waits : Entry → LockTable → Type 0
 Waits e t = Contains t.waiting e
 
+abbrev EndsWait : Entry → Mark → Type 0
+EndsWait e m = (m ≡ Entered e) ⊎ (m ≡ Withdrawn e)
+
 waits_starts : (e : Entry) (old new : LockTable) → TableStep old (Requested e) new → Waits e new
 waits_starts e old new step = rw step.1.3 (Contains-there step.1.0 step.1.1 e)
 
-waits_keeps : (e : Entry) (old new : LockTable) (m : Mark) → TableStep old m new → (m ≡ Entered e → ⊥) → Waits e old → Waits e new
+waits_keeps : (e : Entry) (old new : LockTable) (m : Mark) → TableStep old m new → (EndsWait e m → ⊥) → Waits e old → Waits e new
 waits_keeps e old new (Requested x) step other at = rw step.1.3 (Contains-put step.1.0 step.1.1 x e (subst (λ (w : List Entry). Contains w e) step.1.2 at))
 waits_keeps e old new (Entered x) step other at =
     elim (Contains-cases step.1.0 step.1.1 x e (subst (λ (w : List Entry). Contains w e) step.1.3 at)) [
-      | inl same ↦ absurd (other (ap (λ (y : Entry). Entered y) same))
+      | inl same ↦ absurd (other (inl (ap (λ (y : Entry). Entered y) same)))
       | inr rest ↦ rw step.1.2 rest
     ]
 waits_keeps e old new (Left x) step other at = rw step.1 at
+waits_keeps e old new (Withdrawn x) step other at =
+    elim (Contains-cases step.1.0 step.1.1 x e (subst (λ (w : List Entry). Contains w e) step.1.3 at)) [
+      | inl same ↦ absurd (other (inr (ap (λ (y : Entry). Withdrawn y) same)))
+      | inr rest ↦ rw step.1.2 rest
+    ]
 
-waits_comes : (e : Entry) (old new : LockTable) (m : Mark) → IsSoundTable old → TableStep old m new → Waits e new → (Waits e old × (m ≡ Entered e → ⊥)) ⊎ (m ≡ Requested e)
+-- an entry that still waits after another one lost its place is not that one
+not_lost : (old : LockTable) (prefix rest : List Entry) (x e : Entry) → IsSoundTable old → old.waiting ≡ prefix ++ x ∷ rest → Contains (prefix ++ rest) e → x ≡ e → ⊥
+not_lost old prefix rest x e sound was at same =
+    let others : All (NotOfOneNode x) (prefix ++ rest) = All-apart NotOfOneNode NotOfOneNode-flip prefix rest x (rw (← was) sound.apart_waiting) in
+    All-contains (NotOfOneNode x) (prefix ++ rest) e others at (ap (λ (y : Entry). y.name) same, ap (λ (y : Entry). y.stamp.node) same)
+
+not_ended : (e x : Entry) → (x ≡ e → ⊥) → EndsWait e (Entered x) → ⊥
+not_ended e x apart ends = elim ends [ inl is ↦ apart cc | inr is ↦ absurd cc ]
+
+not_given_up : (e x : Entry) → (x ≡ e → ⊥) → EndsWait e (Withdrawn x) → ⊥
+not_given_up e x apart ends = elim ends [ inl is ↦ absurd cc | inr is ↦ apart cc ]
+
+goes_on_waiting : (e x : Entry) (m : Mark) → (m ≡ Requested x) ⊎ (m ≡ Left x) → EndsWait e m → ⊥
+goes_on_waiting e x m kind ends = elim kind [
+  | inl k ↦ elim ends [ inl is ↦ absurd cc | inr is ↦ absurd cc ]
+  | inr k ↦ elim ends [ inl is ↦ absurd cc | inr is ↦ absurd cc ]
+]
+
+waits_comes : (e : Entry) (old new : LockTable) (m : Mark) → IsSoundTable old → TableStep old m new → Waits e new → (Waits e old × (EndsWait e m → ⊥)) ⊎ (m ≡ Requested e)
 waits_comes e old new (Requested x) sound step at =
     elim (Contains-cases step.1.0 step.1.1 x e (subst (λ (w : List Entry). Contains w e) step.1.3 at)) [
       | inl same ↦ inr (ap (λ (y : Entry). Requested y) same)
-      | inr older ↦ inl (rw step.1.2 older, λ is. absurd cc)
+      | inr older ↦ inl (rw step.1.2 older, goes_on_waiting e x (Requested x) (inl refl))
     ]
 waits_comes e old new (Entered x) sound step at =
     let rest : Contains (step.1.0 ++ step.1.1) e = subst (λ (w : List Entry). Contains w e) step.1.2 at in
-    let others : All (NotOfOneNode x) (step.1.0 ++ step.1.1) = All-apart NotOfOneNode NotOfOneNode-flip step.1.0 step.1.1 x (rw (← step.1.3) sound.apart_waiting) in
-    inl (rw step.1.3 (Contains-put step.1.0 step.1.1 x e rest), λ is. let same : x ≡ e = cc in All-contains (NotOfOneNode x) (step.1.0 ++ step.1.1) e others rest (ap (λ (y : Entry). y.name) same, ap (λ (y : Entry). y.stamp.node) same))
-waits_comes e old new (Left x) sound step at = inl (rw (← step.1) at, λ is. absurd cc)
+    inl (rw step.1.3 (Contains-put step.1.0 step.1.1 x e rest), not_ended e x (not_lost old step.1.0 step.1.1 x e sound step.1.3 rest))
+waits_comes e old new (Left x) sound step at = inl (rw (← step.1) at, goes_on_waiting e x (Left x) (inr refl))
+waits_comes e old new (Withdrawn x) sound step at =
+    let rest : Contains (step.1.0 ++ step.1.1) e = subst (λ (w : List Entry). Contains w e) step.1.2 at in
+    inl (rw step.1.3 (Contains-put step.1.0 step.1.1 x e rest), not_given_up e x (not_lost old step.1.0 step.1.1 x e sound step.1.3 rest))
 
-waiting_lasts : (e : Entry) → Lasts (Waits e) (Requested e) (λ m. m ≡ Entered e)
+waiting_lasts : (e : Entry) → Lasts (Waits e) (Requested e) (EndsWait e)
 waiting_lasts e = record { starts = waits_starts e; keeps = waits_keeps e; comes = waits_comes e }
 
 -- ---- holding, from the grant to the leave
@@ -113,6 +141,7 @@ holds_keeps e old new (Left x) step other at =
       | inl same ↦ absurd (other (ap (λ (y : Entry). Left y) same))
       | inr rest ↦ rw step.2.2 rest
     ]
+holds_keeps e old new (Withdrawn x) step other at = rw step.2 at
 
 holds_comes : (e : Entry) (old new : LockTable) (m : Mark) → IsSoundTable old → TableStep old m new → Holds e new → (Holds e old × (m ≡ Left e → ⊥)) ⊎ (m ≡ Entered e)
 holds_comes e old new (Requested x) sound step at = inl (rw (← step.2) at, λ is. absurd cc)
@@ -125,6 +154,7 @@ holds_comes e old new (Left x) sound step at =
     let rest : Contains (step.2.0 ++ step.2.1) e = subst (λ (h : List Entry). Contains h e) step.2.2 at in
     let others : All (NotOfOneNode x) (step.2.0 ++ step.2.1) = All-apart NotOfOneNode NotOfOneNode-flip step.2.0 step.2.1 x (rw (← step.2.3) sound.apart_holding) in
     inl (rw step.2.3 (Contains-put step.2.0 step.2.1 x e rest), λ is. let same : x ≡ e = cc in All-contains (NotOfOneNode x) (step.2.0 ++ step.2.1) e others rest (ap (λ (y : Entry). y.name) same, ap (λ (y : Entry). y.stamp.node) same))
+holds_comes e old new (Withdrawn x) sound step at = inl (rw (← step.2) at, λ is. absurd cc)
 
 holding_lasts : (e : Entry) → Lasts (Holds e) (Entered e) (λ m. m ≡ Left e)
 holding_lasts e = record { starts = holds_starts e; keeps = holds_keeps e; comes = holds_comes e }
@@ -145,6 +175,7 @@ granted_comes e old new (Entered x) sound step at =
       | inr older ↦ inl (rw step.3.2 older, λ no. no)
     ]
 granted_comes e old new (Left x) sound step at = inl (rw (← step.3) at, λ no. no)
+granted_comes e old new (Withdrawn x) sound step at = inl (rw (← step.3) at, λ no. no)
 
 granted_lasts : (e : Entry) → Lasts (WasGranted e) (Entered e) (λ _. ⊥)
 granted_lasts e = record { starts = granted_starts e; keeps = λ old new m step on at. keeps_granted old new m e step at; comes = granted_comes e }
@@ -172,12 +203,20 @@ requested_before (m ∷ ms) old new e (suc j) steps sound at =
 
 pub run_waits : (marks : List Mark) (table : LockTable) (e : Entry) → TableRun marks table → Contains table.waiting e ↔ WaitsSince marks e
 run_waits marks table e run = (
-  λ at. elim (came (Waits e) (Requested e) (λ m. m ≡ Entered e) (waiting_lasts e) marks empty_table table run empty_is_sound at) [
+  λ at. elim (came (Waits e) (Requested e) (EndsWait e) (waiting_lasts e) marks empty_table table run empty_is_sound at) [
     | inl before ↦ absurd (nothing_there e before.0)
-    | inr since ↦ record { requested = since.0; was_requested = since.1.there; not_entered = λ k lt there. since.1.none k (Entered e) (omega arith) there refl }
+    | inr since ↦ record {
+      requested = since.0;
+      was_requested = since.1.there;
+      not_entered = λ k lt there. since.1.none k (Entered e) (omega arith) there (inl refl);
+      not_withdrawn = λ k lt there. since.1.none k (Withdrawn e) (omega arith) there (inr refl);
+    }
   ],
-  λ since. is_since (Waits e) (Requested e) (λ m. m ≡ Entered e) (waiting_lasts e) marks empty_table table since.requested run since.was_requested
-      (λ k m lt there is. since.not_entered k (omega arith) (there ∙ ap (λ (x : Mark). Some x) is)),
+  λ since. is_since (Waits e) (Requested e) (EndsWait e) (waiting_lasts e) marks empty_table table since.requested run since.was_requested
+      (λ k m lt there ends. elim ends [
+        | inl is ↦ since.not_entered k (omega arith) (there ∙ ap (λ (x : Mark). Some x) is)
+        | inr is ↦ since.not_withdrawn k (omega arith) (there ∙ ap (λ (x : Mark). Some x) is)
+      ]),
 )
 
 pub run_holds : (marks : List Mark) (table : LockTable) (e : Entry) → TableRun marks table → Contains table.holding e ↔ HoldsSince marks e

@@ -7,13 +7,13 @@ use Rattle.std.proofs.lemmas.List.Elements.{All-nil, All-push}
 use Rattle.indexmap.specs.IndexMap.{IndexMap, IsUnique}
 use Rattle.ra_stamp.specs.declared.entry.Entry.{Entry}
 use Rattle.ra_stamp.specs.declared.entry.Mark.{Mark}
-use Rattle.ra_stamp.specs.declared.entry.Mark.TheVariants.{Requested, Entered, Left}
+use Rattle.ra_stamp.specs.declared.entry.Mark.TheVariants.{Requested, Entered, Left, Withdrawn}
 use Rattle.ra_table.specs.Table.{LockTable, empty_table, Gains, Loses, MayRequest, MayEnter, TableStep}
 use Rattle.ra_table.specs.Laws.{IsConflictFree}
 use Rattle.ra_table.specs.NameTables.{AreOn, first_request, on_name, joined, AreOnTheirNames, waiting_of, holding_of, granted_of, table_of, IsKept}
 use Rattle.ra_table.proofs.Moves.{of_parts, Gains-push}
 use Rattle.ra_table.proofs.Conflicts.{stays_conflict_free}
-use Rattle.ra_table.proofs.Checked.{Shows, name_table_holds, may_request, may_enter}
+use Rattle.ra_table.proofs.Checked.{Shows, name_table_waits, name_table_holds, may_request, may_enter}
 use Rattle.ra_table.proofs.Written.{IsWritten}
 use Rattle.ra_table.proofs.Joined.{All-gains, All-loses, found, missing, name_table_is_on, name_table_gains, name_table_loses, name_table_stays, stay_on, joined_more, more_on}
 
@@ -135,6 +135,18 @@ module _ {S : Type 0} (name_tables : IndexMap (List ℕ) LockTable S) (now : Loc
       };
     }
 
+    withdrawn : TableStep old (Withdrawn e) new → IsMade (Withdrawn e) name_tables'
+    withdrawn step = record {
+      step = is_now (Withdrawn e) (subst (λ (t : LockTable). Contains t.waiting e) (sym is) ((name_table_waits old now e shows).0 step.0), loses waiting_of step.1, stays holding_of step.2, stays granted_of step.3);
+      kept_after = λ free. record {
+        distinct = written.distinct;
+        waiting = loses_on waiting_of kept.waiting step.1;
+        holding = stays_on holding_of kept.holding step.2;
+        granted = stays_on granted_of kept.granted step.3;
+        conflict_free = free;
+      };
+    }
+
     refused : {E : Type 0} (mark : Mark) (fault : E) → new ≡ old → IsTried mark name_tables' (Err fault)
     refused mark fault same =
         let part_stays = λ (part : LockTable → List Entry). ap part same in
@@ -162,6 +174,9 @@ module _ {S : Type 0} (name_tables : IndexMap (List ℕ) LockTable S) (now : Loc
 
     pub leave_tried : {E : Type 0} (result : Result (Unit {0}) E) → OnOk result (TableStep old (Left e) new) → OnErr result (new ≡ old) → IsTried (Left e) name_tables' result
     leave_tried = tried (Left e) left
+
+    pub withdraw_tried : {E : Type 0} (result : Result (Unit {0}) E) → OnOk result (TableStep old (Withdrawn e) new) → OnErr result (new ≡ old) → IsTried (Withdrawn e) name_tables' result
+    withdraw_tried = tried (Withdrawn e) withdrawn
 
   -- ---- The name has its first table
 

@@ -4,7 +4,7 @@ use Rattle.std.specs.Prelude.{◌↔◌}
 use Rattle.std.proofs.lemmas.List.Elements.{All-contains}
 use Rattle.ra_stamp.specs.declared.entry.Entry.{Entry}
 use Rattle.ra_stamp.specs.declared.entry.Mark.{Mark}
-use Rattle.ra_stamp.specs.declared.entry.Mark.TheVariants.{Requested, Entered, Left}
+use Rattle.ra_stamp.specs.declared.entry.Mark.TheVariants.{Requested, Entered, Left, Withdrawn}
 use Rattle.ra_stamp.specs.Stamp.{IsEarlier}
 use Rattle.ra_table.specs.Table.{LockTable, empty_table, Excludes, MayRequest, MayEnter, TableRun}
 use Rattle.ra_table.specs.Laws.{AllowsMark, SameEntries}
@@ -33,6 +33,13 @@ allows_leave table e = (
       (record { waiting = table.waiting; holding = rest.0; granted = table.granted }, (at, refl, rest.1, refl)),
 )
 
+pub allows_withdrawal : (table : LockTable) (e : Entry) → AllowsMark table (Withdrawn e) ↔ Contains table.waiting e
+allows_withdrawal table e = (
+  λ step. step.1.0,
+  λ at. let rest = Loses-contained table.waiting e at in
+      (record { waiting = rest.0; holding = table.holding; granted = table.granted }, (at, rest.1, refl, refl)),
+)
+
 -- what holds of each entry of one list holds of each entry of another that has no more
 All-along : (P : Entry → Type 0) (xs ys : List Entry) → ((e : Entry) → Contains ys e → Contains xs e) → All P xs → All P ys
 All-along P xs ys within all = All-from_contains P ys (λ e at. All-contains P xs e all (within e at))
@@ -53,6 +60,7 @@ along a b (Entered e) same allowed =
       no_earlier = All-along (λ x. Excludes x e → IsEarlier x.stamp e.stamp → ⊥) a.waiting b.waiting (λ x. (same.waiting x).1) may.no_earlier;
     })
 along a b (Left e) same allowed = (allows_leave b e).1 ((same.holding e).0 ((allows_leave a e).0 allowed))
+along a b (Withdrawn e) same allowed = (allows_withdrawal b e).1 ((same.waiting e).0 ((allows_withdrawal a e).0 allowed))
 
 -- a run goes on with a mark exactly if the table at its end allows it
 pub next_mark : (marks : List Mark) (m : Mark) (table : LockTable) → TableRun marks table → AllowsMark table m ↔ ((next : LockTable) × TableRun (marks ++ m ∷ []) next)

@@ -9,6 +9,8 @@ use Rattle.ra_table.specs.declared.error.LeaveError.{LeaveError}
 use Rattle.ra_table.specs.declared.error.LeaveError.TheVariants.{NotHeld}
 use Rattle.ra_table.specs.declared.error.RequestError.{RequestError}
 use Rattle.ra_table.specs.declared.error.RequestError.TheVariants as requesting
+use Rattle.ra_table.specs.declared.error.WithdrawError.{WithdrawError}
+use Rattle.ra_table.specs.declared.error.WithdrawError.TheVariants as withdrawing
 use Rattle.ra_table.specs.Table.{LockTable, empty_table, MayRequest, MayEnter}
 use Rattle.ra_table.specs.Refusals.{IsNodeBusy, IsNotAbove, IsHeld, HasEarlier}
 use Rattle.ra_table.specs.Answers.{RequestTells, CheckTells, EnterTells, IsAnswered}
@@ -136,6 +138,10 @@ nobody_enters e = enter_refused entering.NotWaiting empty_table e (answers_not_w
 -- ---- An entry that leaves
 
 -- it is not given back exactly if it does not hold
+pub not_waiting_told : (result : Result (Unit {0}) WithdrawError) (Here There : Type 0) → IsOk result ↔ Here → Here ↔ There → IsErrOf result withdrawing.NotWaiting ↔ (There → ⊥)
+not_waiting_told (Ok u) Here There ok same = (λ err. absurd (ok_apart u withdrawing.NotWaiting err), λ none. absurd (none (same.0 (ok.0 refl))))
+not_waiting_told (Err withdrawing.NotWaiting) Here There ok same = (λ _ there. false≢true (ok.1 (same.1 there)), λ _. refl)
+
 pub not_held_told : (result : Result (Unit {0}) LeaveError) (Here There : Type 0) → IsOk result ↔ Here → Here ↔ There → IsErrOf result NotHeld ↔ (There → ⊥)
 not_held_told (Ok u) Here There ok same = (λ err. absurd (ok_apart u NotHeld err), λ none. absurd (none (same.0 (ok.0 refl))))
 not_held_told (Err NotHeld) Here There ok same = (λ _ there. false≢true (ok.1 (same.1 there)), λ _. refl)

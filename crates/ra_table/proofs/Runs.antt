@@ -4,7 +4,7 @@ use Rattle.std.proofs.lemmas.Option.{same_Some}
 use Rattle.std.proofs.lemmas.List.Elements.{All-contains}
 use Rattle.ra_stamp.specs.declared.entry.Entry.{Entry}
 use Rattle.ra_stamp.specs.declared.entry.Mark.{Mark}
-use Rattle.ra_stamp.specs.declared.entry.Mark.TheVariants.{Requested, Entered, Left}
+use Rattle.ra_stamp.specs.declared.entry.Mark.TheVariants.{Requested, Entered, Left, Withdrawn}
 use Rattle.ra_stamp.specs.Stamp.{IsEarlier}
 use Rattle.ra_table.specs.Table.{LockTable, empty_table, Excludes, TableStep, TableSteps, TableRun}
 use Rattle.ra_table.specs.Laws.{IsConflictFree, IsAt}
@@ -44,6 +44,7 @@ pub keeps_granted : (old new : LockTable) (mark : Mark) (e : Entry) → TableSte
 keeps_granted old new (Requested x) e step at = rw step.3 at
 keeps_granted old new (Entered x) e step at = rw step.3.3 (Contains-put step.3.0 step.3.1 x e (subst (λ (g : List Entry). Contains g e) step.3.2 at))
 keeps_granted old new (Left x) e step at = rw step.3 at
+keeps_granted old new (Withdrawn x) e step at = rw step.3 at
 
 -- an entry that is granted after another was, and that excludes it, is later
 later_grant : ConflictIsSymmetric → StampsAreTotal → (marks : List Mark) (old new : LockTable) (e f : Entry) (j : ℕ) → TableSteps old marks new

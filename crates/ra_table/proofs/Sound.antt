@@ -3,7 +3,7 @@ use Rattle.std.proofs.Common.{List, [], ◌∷◌, ◌++◌, get_or, All, sym, s
 use Rattle.std.proofs.lemmas.List.Elements.{All-nil}
 use Rattle.ra_stamp.specs.declared.entry.Entry.{Entry}
 use Rattle.ra_stamp.specs.declared.entry.Mark.{Mark}
-use Rattle.ra_stamp.specs.declared.entry.Mark.TheVariants.{Requested, Entered, Left}
+use Rattle.ra_stamp.specs.declared.entry.Mark.TheVariants.{Requested, Entered, Left, Withdrawn}
 use Rattle.ra_table.specs.Table.{LockTable, empty_table, IsNodeFree, TableStep}
 use Rattle.ra_table.specs.Refusals.{SharesNodeAndName}
 use Rattle.ra_table.proofs.Apart.{Apart, All-put, All-taken, All-there, Apart-put, Apart-taken, All-apart}
@@ -59,6 +59,13 @@ sound_left waiting prefix rest e sound = record {
   apart = λ k d lt. All-taken (NotOfOneNode (get_or waiting k d)) prefix rest e (sound.apart k d lt);
 }
 
+sound_withdrawn : (prefix rest holding : List Entry) (e : Entry) → IsSound (prefix ++ e ∷ rest) holding → IsSound (prefix ++ rest) holding
+sound_withdrawn prefix rest holding e sound = record {
+  apart_waiting = Apart-taken NotOfOneNode prefix rest e sound.apart_waiting;
+  apart_holding = sound.apart_holding;
+  apart = All-taken (λ w. All (NotOfOneNode w) holding) prefix rest e sound.apart;
+}
+
 pub step_sound : (old new : LockTable) (mark : Mark) → TableStep old mark new → IsSoundTable old → IsSoundTable new
 step_sound old new (Requested e) step sound =
     let before : IsSound (step.1.0 ++ step.1.1) old.holding = subst (λ (w : List Entry). IsSound w old.holding) step.1.2 sound in
@@ -70,3 +77,6 @@ step_sound old new (Entered e) step sound =
 step_sound old new (Left e) step sound =
     let before : IsSound old.waiting (step.2.0 ++ e ∷ step.2.1) = subst (λ (h : List Entry). IsSound old.waiting h) step.2.3 sound in
     rw (step.1, step.2.2) (sound_left old.waiting step.2.0 step.2.1 e before)
+step_sound old new (Withdrawn e) step sound =
+    let before : IsSound (step.1.0 ++ e ∷ step.1.1) old.holding = subst (λ (w : List Entry). IsSound w old.holding) step.1.3 sound in
+    rw (step.1.2, step.2) (sound_withdrawn step.1.0 step.1.1 old.holding e before)

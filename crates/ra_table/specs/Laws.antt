@@ -2,7 +2,7 @@
 use Rattle.std.specs.Prelude.{◌≡◌, ◌<◌, ◌↔◌, ℕ, List, Some, AllPairs, Contains, length, slice_get}
 use Rattle.ra_stamp.specs.declared.entry.Entry.{Entry}
 use Rattle.ra_stamp.specs.declared.entry.Mark.{Mark}
-use Rattle.ra_stamp.specs.declared.entry.Mark.TheVariants.{Requested, Entered, Left}
+use Rattle.ra_stamp.specs.declared.entry.Mark.TheVariants.{Requested, Entered, Left, Withdrawn}
 use Rattle.ra_table.specs.Table.{LockTable, Excludes, TableStep}
 
 -- no two of these entries exclude each other
@@ -17,11 +17,12 @@ AllowsMark table mark = (next : LockTable) × TableStep table mark next
 abbrev pub IsAt : List Mark → ℕ → Mark → Type 0
 IsAt marks place mark = slice_get marks place ≡ Some mark
 
--- the entry was requested, and has not entered since
+-- the entry was requested, and has neither entered nor been withdrawn since
 pub record WaitsSince (marks : List Mark) (e : Entry) : Type 0 where
   pub requested : ℕ
   pub was_requested : IsAt marks requested (Requested e)
   pub not_entered : (k : ℕ) → requested < k → IsAt marks k (Entered e) → ⊥
+  pub not_withdrawn : (k : ℕ) → requested < k → IsAt marks k (Withdrawn e) → ⊥
 
 -- the entry was requested, then it entered, and it has not left since
 pub record HoldsSince (marks : List Mark) (e : Entry) : Type 0 where

@@ -2,7 +2,7 @@
 use Rattle.std.specs.Prelude.{◌≡◌, ◌<◌, List, [], ◌∷◌, ◌++◌, All, Contains}
 use Rattle.ra_stamp.specs.declared.entry.Entry.{Entry}
 use Rattle.ra_stamp.specs.declared.entry.Mark.{Mark}
-use Rattle.ra_stamp.specs.declared.entry.Mark.TheVariants.{Requested, Entered, Left}
+use Rattle.ra_stamp.specs.declared.entry.Mark.TheVariants.{Requested, Entered, Left, Withdrawn}
 use Rattle.ra_stamp.specs.Mode.{Conflict}
 use Rattle.ra_stamp.specs.Stamp.{IsEarlier}
 
@@ -46,7 +46,7 @@ pub record MayEnter (table : LockTable) (e : Entry) : Type 0 where
   pub not_held : All (λ x. Excludes x e → ⊥) table.holding
   pub no_earlier : All (λ x. Excludes x e → IsEarlier x.stamp e.stamp → ⊥) table.waiting
 
--- the mark leads from the old table to the new one; an entry leaves only if it holds
+-- the mark leads from the old table to the new one; an entry leaves only if it holds, and is withdrawn only if it waits
 abbrev pub TableStep : LockTable → Mark → LockTable → Type 0
 TableStep old (Requested e) new =
     MayRequest old e × Gains old.waiting e new.waiting
@@ -57,6 +57,9 @@ TableStep old (Entered e) new =
 TableStep old (Left e) new =
     Contains old.holding e × (new.waiting ≡ old.waiting)
     × Loses old.holding e new.holding × (new.granted ≡ old.granted)
+TableStep old (Withdrawn e) new =
+    Contains old.waiting e × Loses old.waiting e new.waiting
+    × (new.holding ≡ old.holding) × (new.granted ≡ old.granted)
 
 -- these marks lead from one table to another, each by a table step
 abbrev pub TableSteps : LockTable → List Mark → LockTable → Type 0

@@ -49,3 +49,16 @@ impl fmt::Display for LeaveError {
         fmt::Debug::fmt(self, f)
     }
 }
+
+/// Why an entry was not withdrawn.
+#[derive(Clone, Copy, Debug, PartialEq, Eq, Error)]
+pub enum WithdrawError {
+    /// The entry does not wait.
+    NotWaiting,
+}
+
+impl fmt::Display for WithdrawError {
+    fn fmt<W: fmt::Write>(&self, f: &mut fmt::Formatter<W>) -> fmt::Result {
+        fmt::Debug::fmt(self, f)
+    }
+}

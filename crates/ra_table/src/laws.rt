@@ -21,7 +21,7 @@ pub fn grants_come_in_stamp_order()
         → IsEarlier e.stamp f.stamp }
 {}
 
-/// An entry waits from its request until it enters.
+/// An entry waits from its request until it enters or is withdrawn.
 pub fn waiting_entries_were_requested_and_have_not_entered()
     ensures { (marks : List Mark) (table : LockTable) (e : Entry) → TableRun marks table
         → Contains table.waiting e ↔ WaitsSince marks e }
@@ -45,7 +45,8 @@ pub fn tables_of_one_run_have_the_same_entries()
     ensures { (marks : List Mark) (a b : LockTable) → TableRun marks a → TableRun marks b → SameEntries a b }
 {}
 
-/// A table allows a mark exactly if the request may be made, the entry may be granted, or the entry holds.
+/// A table allows a mark exactly if the request may be made, the entry may be granted, the entry that is to leave
+/// holds, or the one that is to be withdrawn waits.
 pub fn steps_exist_where_they_are_allowed()
     ensures request { (table : LockTable) (e : Entry)
         → AllowsMark table (Mark.Requested e) ↔ MayRequest table e }
@@ -53,6 +54,8 @@ pub fn steps_exist_where_they_are_allowed()
         → AllowsMark table (Mark.Entered e) ↔ MayEnter table e }
     ensures leave { (table : LockTable) (e : Entry)
         → AllowsMark table (Mark.Left e) ↔ Contains table.holding e }
+    ensures withdraw { (table : LockTable) (e : Entry)
+        → AllowsMark table (Mark.Withdrawn e) ↔ Contains table.waiting e }
 {}
 
 /// Runs start at the empty table and continue step by step, and they can be joined and split.

@@ -8,7 +8,7 @@ mod laws;
 mod name_table;
 mod table;
 
-pub use error::{EnterError, LeaveError, RequestError};
+pub use error::{EnterError, LeaveError, RequestError, WithdrawError};
 pub use laws::{
     conflicting_entries_never_hold_at_once, granted_entries_have_entered,
     grants_come_in_stamp_order, holders_were_requested_and_entered_and_have_not_left,

@@ -9,13 +9,14 @@ ghost use Rattle.ra_table.specs.Answers.{RequestTells, CheckTells, EnterTells, I
 ghost use Rattle.ra_table.specs.NameTables.{AreOn, IsPlaceOfEntry, first_request};
 
 use crate::entry_lists::{has_earlier, has_excluding, has_node_of, place_of, push_exactly};
-use crate::error::{EnterError, LeaveError, RequestError};
+use crate::error::{EnterError, LeaveError, RequestError, WithdrawError};
 use indexmap::IndexMap;
 use ra_stamp::{Entry, GhostList, Name};
 use std::marker::Model;
 
-/// The lock table of one name: the entries that wait, those that hold, and those granted so far. Contracts see a lock table.
-/// Each call takes time linear in the number of entries that wait and hold. The table stays when its last entry has left.
+/// The lock table of one name: the entries that wait, those that hold, and those granted so far. Contracts see a lock
+/// table. Each call takes time linear in the number of entries that wait and hold. The table stays when its last entry
+/// has left.
 #[derive(Drop)]
 pub struct NameTable {
     waiting: Vec<Entry>,
@@ -129,6 +130,23 @@ impl NameTable {
         Ok(())
     }
 
+    /// Withdraws an entry that waits. It does not allocate.
+    ///
+    /// # Errors
+    ///
+    /// `NotWaiting`: it does not wait. The table is as before.
+    pub fn withdraw(&mut self, entry: &Entry) -> Result<(), WithdrawError>
+        ensures ok { OnOk result (TableStep self.old (Mark.Withdrawn entry.now) self.new) }
+        ensures err { OnErr result (self.new ≡ self.old) }
+        ensures waits { IsOk result ↔ Contains self.old.waiting entry.now }
+    {
+        let Some(place) = place_of(&self.waiting, entry) else {
+            return Err(WithdrawError::NotWaiting);
+        };
+        self.waiting.remove(place);
+        Ok(())
+    }
+
     /// Checks whether an entry on the name of this table may wait.
     ///
     /// # Errors
@@ -166,6 +184,16 @@ impl NameTable {
             return Err(EnterError::Earlier);
         }
         Ok(place)
+    }
+
+    /// Returns whether the entry waits.
+    pub fn waits(&self, entry: &Entry) -> bool
+        ensures { IsTrue result ↔ Contains self.now.waiting entry.now }
+    {
+        match place_of(&self.waiting, entry) {
+            Some(_) => true,
+            None => false,
+        }
     }
 
     /// Returns whether the entry holds.

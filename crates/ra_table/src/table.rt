@@ -8,7 +8,7 @@ ghost use Rattle.ra_table.specs.Refusals.{IsNodeBusy, IsNotAbove, IsHeld, HasEar
 ghost use Rattle.ra_table.specs.Laws.{IsConflictFree};
 ghost use Rattle.ra_table.specs.NameTables.{IsPlaceOf};
 
-use crate::error::{EnterError, LeaveError, RequestError};
+use crate::error::{EnterError, LeaveError, RequestError, WithdrawError};
 use crate::name_table::NameTable;
 use indexmap::IndexMap;
 use ra_stamp::{Entry, Memory, Name};
@@ -19,11 +19,11 @@ use std::marker::Model;
 /// one name hold. A name that was asked for is kept forever, also when nobody waits for it or holds it any more. So the
 /// table grows with the names, and not with the grants.
 ///
-/// Each name has a table of its own, so that a call looks at the entries on its entry's name alone. It looks for the name
-/// once, and a first request on a name twice. Of the grants a table keeps the highest number, with which a request is
-/// compared; only clauses and proofs see the grants themselves. A name is found by a fixed hash: among names that someone picked so
-/// that they collide, a look-up is linear in their number. A request, enter or leave does not hash the name of the last
-/// of these calls, or the name that first came after that one.
+/// Each name has a table of its own, so that a call looks at the entries on its entry's name alone. It looks for the
+/// name once, and a first request on a name twice. Of the grants a table keeps the highest number, with which a request
+/// is compared; only clauses and proofs see the grants themselves. A name is found by a fixed hash: among names that
+/// someone picked so that they collide, a look-up is linear in their number. A request, enter or leave does not hash
+/// the name of the last of these calls, or the name that first came after that one.
 pub struct Table {
     /// A table for each name on which an entry ever waited.
     name_tables: IndexMap<Name, NameTable>,
@@ -65,8 +65,9 @@ fn is_at(name_tables: &IndexMap<Name, NameTable>, place: usize, name: &Name) -> 
     }
 }
 
-/// Returns at which place the table of a name is, or the number of tables if it has none. It looks at the place that was found last, then
-/// at the next one, and only then by a hash of the name: most callers ask of one name several times, and of names in one order.
+/// Returns at which place the table of a name is, or the number of tables if it has none. It looks at the place that
+/// was found last, then at the next one, and only then by a hash of the name: most callers ask of one name several
+/// times, and of names in one order.
 #[inline(always)]
 fn place_of_name(name_tables: &IndexMap<Name, NameTable>, latest: usize, name: &Name) -> usize
     requires { IsDistinct bytes_eq (keys_of name_tables.now.entries) }
@@ -180,9 +181,30 @@ impl Table {
         name_table.leave(entry)
     }
 
-    /// Returns whether the entry may wait, unless memory runs out: its node neither waits nor holds on its name, and its number is above that of
-    /// each entry granted so far on it. It takes expected time linear in the number of entries that wait and hold on its name, and does
-    /// not allocate: a checker asks it of a mark that is not due, for which the table is not to grow.
+    /// Withdraws an entry that waits, in expected time linear in the number of entries that wait on its name. It does
+    /// not allocate.
+    ///
+    /// # Errors
+    ///
+    /// `NotWaiting`: it does not wait. The table is as before.
+    pub fn withdraw(&mut self, entry: &Entry) -> Result<(), WithdrawError>
+        ensures ok { OnOk result (TableStep self.old (Mark.Withdrawn entry.now) self.new) }
+        ensures err { OnErr result (self.new ≡ self.old) }
+        ensures waits { IsOk result ↔ Contains self.old.waiting entry.now }
+        ensures not_waiting { IsErrOf result WithdrawError.NotWaiting ↔ ¬ Contains self.old.waiting entry.now }
+        ensures exclusive { IsConflictFree self.new.holding }
+    {
+        self.latest = place_of_name(&self.name_tables, self.latest, &entry.name);
+        let Some(name_table) = self.name_tables.get_index_mut(self.latest) else {
+            return Err(WithdrawError::NotWaiting);
+        };
+        name_table.withdraw(entry)
+    }
+
+    /// Returns whether the entry may wait, unless memory runs out: its node neither waits nor holds on its name, and
+    /// its number is above that of each entry granted so far on it. It takes expected time linear in the number of
+    /// entries that wait and hold on its name, and does not allocate: a checker asks it of a mark that is not due, for
+    /// which the table is not to grow.
     pub fn can_request(&self, entry: &Entry) -> bool
         ensures allowed { IsTrue result ↔ MayRequest self.now entry.now }
         ensures exclusive { IsConflictFree self.now.holding }
@@ -206,7 +228,20 @@ impl Table {
         }
     }
 
-    /// Returns whether the entry holds, in expected time linear in the number of entries that hold on its name. It does not allocate.
+    /// Returns whether the entry waits, in expected time linear in the number of entries that wait on its name. It does
+    /// not allocate.
+    pub fn waits(&self, entry: &Entry) -> bool
+        ensures waits { IsTrue result ↔ Contains self.now.waiting entry.now }
+        ensures exclusive { IsConflictFree self.now.holding }
+    {
+        match self.name_tables.get(&entry.name) {
+            Some(name_table) => name_table.waits(entry),
+            None => false,
+        }
+    }
+
+    /// Returns whether the entry holds, in expected time linear in the number of entries that hold on its name. It does
+    /// not allocate.
     pub fn holds(&self, entry: &Entry) -> bool
         ensures held { IsTrue result ↔ Contains self.now.holding entry.now }
         ensures exclusive { IsConflictFree self.now.holding }

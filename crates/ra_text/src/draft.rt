@@ -6,8 +6,8 @@ use itoa::{Buffer, Integer};
 use ra_stamp::{Entry, Mark, Memory, Message, Name, NodeId};
 use std::alloc::Global;
 
-/// A text as it is made. If memory runs out for a part, the draft remembers it and `finish` reports it. So the calls that add
-/// parts have no errors, and a function of many parts has one exit.
+/// A text as it is made. If memory runs out for a part, the draft remembers it and `finish` reports it. So the calls
+/// that add parts have no errors, and a function of many parts has one exit.
 #[derive(Drop)]
 pub struct Draft {
     /// What it is so far, if no part was refused.

@@ -1,8 +1,8 @@
 ghost use Rattle.std.specs.Prelude.{◌≡◌};
 ghost use Rattle.ra_text.specs.DrawnPart as spec;
 
-/// The lines of a text that are to be drawn, counted from 1, both ends among them. `from` may be 0, which is as 1, and `to` after the
-/// last line, which is as that one.
+/// The lines of a text that are to be drawn, counted from 1, both ends among them. `from` may be 0, which is as 1, and
+/// `to` after the last line, which is as that one.
 #[derive(Clone, Copy)]
 pub struct Part {
     /// The first one.

@@ -1,5 +1,5 @@
-//! Texts and streams: how a text is made part by part and cut apart, which lines of it are drawn, how a note to a person is made,
-//! which text is made of a run, and how bytes are read and written.
+//! Texts and streams: how a text is made part by part and cut apart, which lines of it are drawn, how a note to a
+//! person is made, which text is made of a run, and how bytes are read and written.
 #![tactic(auto)]
 
 mod cutting;

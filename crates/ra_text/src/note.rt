@@ -7,8 +7,8 @@ use std::alloc::Global;
 /// The most bytes or characters of an input that are quoted at once.
 const MAX_QUOTED: usize = 60;
 
-/// A note on one line, as it is made. As in a [`Draft`], if memory runs out for a part, the note remembers it and `finish`
-/// reports it.
+/// A note on one line, as it is made. As in a [`Draft`], if memory runs out for a part, the note remembers it and
+/// `finish` reports it.
 pub struct Note {
     draft: Draft,
 }
@@ -92,7 +92,8 @@ impl Note {
         }
     }
 
-    /// Adds a text of an input in quotes, and only its first 60 characters, with `?` in place of each control character.
+    /// Adds a text of an input in quotes, and only its first 60 characters, with `?` in place of each control
+    /// character.
     pub fn quoted_text(&mut self, text: &str) {
         self.push("'");
         let mut left = MAX_QUOTED;
@@ -107,7 +108,8 @@ impl Note {
         self.push("'");
     }
 
-    /// Adds bytes of an input, and only the first 60, with `?` in place of each that is not a printable character of ASCII.
+    /// Adds bytes of an input, and only the first 60, with `?` in place of each that is not a printable character of
+    /// ASCII.
     pub fn bytes(&mut self, bytes: &[u8]) {
         for byte in &bytes[..bytes.len().min(MAX_QUOTED)] {
             self.letter(match byte {

@@ -1,5 +1,5 @@
-/// Which text is made of a run. It is here because a command line asks for one in `ra_arguments`, and `ra_script` makes it: neither uses
-/// the other.
+/// Which text is made of a run. It is here because a command line asks for one in `ra_arguments`, and `ra_script` makes
+/// it: neither uses the other.
 #[derive(Clone, Copy)]
 pub enum OutputKind {
     /// The lines of its report.
@@ -8,8 +8,8 @@ pub enum OutputKind {
     Trace,
     /// The choices by which the policy listed makes it again: their words on one line.
     Choices,
-    /// If it is stuck, the choices of the least run that is found by leaving out one step after the other, and otherwise the
-    /// word `none`.
+    /// If it is stuck, the choices of the least run that is found by leaving out one step after the other, and
+    /// otherwise the word `none`.
     Shrunk,
     /// The lines of the state at its end.
     State,

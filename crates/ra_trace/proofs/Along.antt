@@ -11,7 +11,7 @@ use Rattle.ra_trace.specs.declared.checker.Judgement.{Judgement}
 use Rattle.ra_trace.specs.declared.error.TraceError.{TraceError}
 use Rattle.ra_trace.specs.declared.error.TraceError.TheVariants.{Read, Limit, Memory}
 use Rattle.ra_trace.specs.declared.line.Line.{Line}
-use Rattle.ra_trace.specs.declared.line.Line.TheVariants.{First, Stepped, Marked, Last}
+use Rattle.ra_trace.specs.declared.line.Line.TheVariants.{First, Stepped, Sent, Marked, Last}
 use Rattle.ra_trace.specs.declared.line_source.byte_lines.LineEnd.TheVariants.{Feed}
 use Rattle.ra_trace.specs.declared.checker.verdict.Cause.{Cause}
 use Rattle.ra_trace.specs.declared.checker.verdict.Cause.TheVariants as cause
@@ -21,10 +21,10 @@ use Rattle.ra_trace.specs.declared.checker.Checker.{Checker}
 use Rattle.ra_trace.specs.declared.line.version.Version.{Version}
 use Rattle.ra_trace.specs.Forms.{IsReadable, BeginsReadable}
 use Rattle.ra_trace.specs.TraceText.{IsLine, line_text, trace_lines}
-use Rattle.ra_trace.specs.Verdict.{IsTracePrefix, IsFirst, IsWrong}
+use Rattle.ra_trace.specs.Verdict.{IsTracePrefix, marks_due, IsFirst, IsWrong}
 use Rattle.ra_trace.specs.Reading.{IsWhole, AreRight, IsOpenLine, IsOpen, IsOver, HasBegun, HasRead, Judges, StopsAfter, Answers}
 use Rattle.ra_trace.specs.NextLine.{EndsSo, TakesBytes, FailsWithin, IsOverLine, HasNone, EndsText}
-use Rattle.ra_trace.specs.Checking.{due_of, IsCheckerOf, Takes, Refuses, Allows, Judged}
+use Rattle.ra_trace.specs.Checking.{all_due, IsCheckerOf, Takes, Refuses, Allows, Judged}
 use Rattle.ra_trace.specs.Along.{HasTaken, IsAlong, IsDone, Opens, Turns, SomeTaken}
 use Rattle.ra_trace.specs.Below.{LawsBelow}
 use Rattle.ra_trace.proofs.Lines.{begins_once}
@@ -133,7 +133,7 @@ other_first limit old new bytes line taken begins ended other =
 not_whole : LawsBelow → (limit left : ℕ) (old now : Option (List ℕ)) (checker : Checker) (number : ℕ)
     → (along : IsAlong limit left old now checker number) → IsWhole along.prefix → ⊥
 not_whole laws limit left old now checker number along (version, n, start, moves, trace, is) =
-    no_trace laws checker.version checker.world.count checker.world.start checker.world.moves (due_of checker) version n start moves along.prefix
+    no_trace laws checker.version checker.world.count checker.world.start checker.world.moves (all_due checker) version n start moves along.prefix
     along.checker_is.prefix is
 
 -- one line more
@@ -154,7 +154,7 @@ after_one_more limit left old now new prefix line bytes so_far taken begins righ
 
 right_so_far : (checker : Checker) (prefix : List Line) → IsCheckerOf checker prefix → AreRight prefix
 right_so_far checker prefix checker_is =
-    inr (inl (checker.version, checker.world.count, checker.world.start, checker.world.moves, due_of checker, checker_is.prefix))
+    inr (inl (checker.version, checker.world.count, checker.world.start, checker.world.moves, all_due checker, checker_is.prefix))
 
 -- after the first line
 pub along_first : (limit : ℕ) (old new : Option (List ℕ)) (bytes : List ℕ) (line : Line) (checker : Checker) → TakesBytes limit old new bytes → BeginsReadable bytes line [] → (IsReadable line → IsCheckerOf checker (line ∷ []))
@@ -206,6 +206,8 @@ pub along_more : (limit left : ℕ) (old now new : Option (List ℕ)) (checker a
 along_more limit left old now new checker after number (First version nodes start) bytes along taken begins more takes = absurd takes
 along_more limit left old now new checker after number (Stepped step) bytes along taken begins more takes =
     along_by limit left old now new checker after number (Stepped step) bytes along taken begins (takes.on along.prefix begins.0 along.checker_is)
+along_more limit left old now new checker after number (Sent message) bytes along taken begins more takes =
+    along_by limit left old now new checker after number (Sent message) bytes along taken begins (takes.on along.prefix begins.0 along.checker_is)
 along_more limit left old now new checker after number (Marked mark) bytes along taken begins more takes =
     along_by limit left old now new checker after number (Marked mark) bytes along taken begins (takes.on along.prefix begins.0 along.checker_is)
 along_more limit left old now new checker after number Last bytes along taken begins more takes = absurd (more refl)
@@ -228,7 +230,7 @@ none_next laws limit left old now new checker number bytes along taken none =
       checker.world.count,
       checker.world.start,
       checker.world.moves,
-      due_of checker,
+      all_due checker,
       along.checker_is.prefix,
       λ line rest begins. absurd (none.0 line rest (begins_readable checker.version bytes line rest begins)),
     )))
@@ -251,13 +253,13 @@ no_memory_next limit left old now new checker number line bytes along taken begi
 
 -- ---- After the last line
 
-prefix_at_end : (checker : Checker) (prefix : List Line) → IsCheckerOf checker prefix → due_of checker ≡ []
-    → IsTracePrefix checker.version checker.world.count checker.world.start checker.world.moves [] prefix
+prefix_at_end : (checker : Checker) (prefix : List Line) → IsCheckerOf checker prefix → all_due checker ≡ marks_due []
+    → IsTracePrefix checker.version checker.world.count checker.world.start checker.world.moves (marks_due []) prefix
 prefix_at_end checker prefix checker_is none =
     subst (λ ms. IsTracePrefix checker.version checker.world.count checker.world.start checker.world.moves ms prefix) none checker_is.prefix
 
 done_by : (limit left : ℕ) (old now new : Option (List ℕ)) (checker : Checker) (number : ℕ) (bytes : List ℕ)
-    → IsAlong limit left old now checker number → TakesBytes left now new bytes → BeginsReadable bytes Last [] → due_of checker ≡ []
+    → IsAlong limit left old now checker number → TakesBytes left now new bytes → BeginsReadable bytes Last [] → all_due checker ≡ marks_due []
     → IsDone limit (left - length bytes) old new checker (number + 1)
 done_by limit left old now new checker number bytes along taken begins none =
     let w = checker.world in

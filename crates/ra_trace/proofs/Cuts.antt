@@ -37,6 +37,13 @@ cut-append byte (x ∷ xs) ys free =
     if_false (x == byte) (Some ([], xs ++ byte ∷ ys)) (option_map (longer x) (cut byte (xs ++ byte ∷ ys))) (All-head (λ b. (b == byte) ≡ false) x xs free)
     ∙ ap (option_map (longer x)) (cut-append byte xs ys (All-tail (λ b. (b == byte) ≡ false) x xs free))
 
+-- a text without the byte is not cut
+pub cut-free : (byte : ℕ) (text : List ℕ) → IsFree byte text → cut byte text ≡ None
+cut-free byte [] free = refl
+cut-free byte (x ∷ xs) free =
+    if_false (x == byte) (Some ([], xs)) (option_map (longer x) (cut byte xs)) (All-head (λ b. (b == byte) ≡ false) x xs free)
+    ∙ ap (option_map (longer x)) (cut-free byte xs (All-tail (λ b. (b == byte) ≡ false) x xs free))
+
 pub cut-at : (byte : ℕ) (text : List ℕ) (end : ℕ) → end < length text → get_or text end 0 ≡ byte → ((k : ℕ) → k < end → get_or text k 0 ≢ byte)
     → cut byte text ≡ Some (take end text, drop (suc end) text)
 cut-at byte [] end within here before = absurd (omega arith)

@@ -79,6 +79,8 @@ no_line_goes_on laws prefix rest more (before, byte, opened, is, how) (inr (inr 
 pub wrong_goes_on : LawsBelow → (prefix : List Line) (rest more : List ℕ) (why : Cause) → IsOver prefix rest → IsWrong prefix rest why
     → IsWrong prefix (rest ++ more) why
 wrong_goes_on laws prefix rest more cause.Line over w = no_line_goes_on laws prefix rest more over w
+wrong_goes_on laws prefix rest more cause.Sends over (version, n, start, moves, due, so_far, line, others, begins, unsent) =
+    (version, n, start, moves, due, so_far, line, others ++ more, begins_more version rest more line others begins, unsent)
 wrong_goes_on laws prefix rest more cause.Table over (version, n, start, moves, due, so_far, mark, others, begins, refused) =
     (version, n, start, moves, due, so_far, mark, others ++ more, begins_more version rest more (Marked mark) others begins, refused)
 wrong_goes_on laws prefix rest more cause.Marks over (version, n, start, moves, due, so_far, line, others, begins, undue) =

@@ -5,18 +5,18 @@ use Rattle.std.proofs.lemmas.Fmt.{length-decimal-le}
 use Rattle.ra_stamp.specs.Name.{IsName}
 use Rattle.ra_stamp.specs.NodeId.{IsNodeNumber}
 use Rattle.ra_stamp.specs.declared.entry.Entry.{Entry}
-use Rattle.ra_stamp.specs.declared.entry.Mark.TheVariants.{Requested, Entered, Left}
+use Rattle.ra_stamp.specs.declared.entry.Mark.TheVariants.{Requested, Entered, Left, Withdrawn}
 use Rattle.ra_stamp.specs.declared.message.Message.TheVariants.{Request, Reply}
 use Rattle.ra_stamp.specs.declared.mode.Mode.{Mode}
 use Rattle.ra_stamp.specs.declared.mode.Mode.TheVariants.{Shared, Exclusive, IntentShared, IntentExclusive, SharedIntentExclusive}
-use Rattle.ra_world.specs.declared.step.Step.TheVariants.{Ask, Leave, Deliver, Lose, Repeat}
+use Rattle.ra_world.specs.declared.step.Step.TheVariants.{Ask, Leave, Cancel, Deliver, Lose, Repeat, Forget}
 use Rattle.ra_stamp.specs.Mode.{mode_word}
 use Rattle.ra_trace.specs.declared.line.Line.{Line}
-use Rattle.ra_trace.specs.declared.line.Line.TheVariants.{First, Stepped, Marked, Last}
-use Rattle.ra_trace.specs.declared.line.version.Version.TheVariants.{One, Two}
+use Rattle.ra_trace.specs.declared.line.Line.TheVariants.{First, Stepped, Sent, Marked, Last}
+use Rattle.ra_trace.specs.declared.line.version.Version.TheVariants.{One, Two, Three, ThreeWithSends}
 use Rattle.ra_trace.specs.Forms.{IsReadable}
 use Rattle.ra_trace.specs.TraceText.{IsClientNumber, IsSeq, IsEntryLine}
-use Rattle.ra_trace.proofs.Rows.{body, first_tail, leave_tail, ask_tail, reply_tail, full_tail}
+use Rattle.ra_trace.proofs.Rows.{body, first_tail, third_tail, leave_tail, ask_tail, reply_tail, full_tail}
 
 -- a node's number, a client's and any other have at most 20 digits
 number_length : (n : ℕ) → n < 2 ^ 64 → length (decimal n) ≤ 20
@@ -51,7 +51,7 @@ reply_length from to seq name first second is last =
     two (decimal from) _ 20 74 (node_length from first)
     (two (decimal to) _ 20 53 (node_length to second) (two name (decimal seq) 32 20 is.not_long (number_length seq last.1)))
 
-entry_length : (entry : Entry) → IsEntryLine Two entry
+entry_length : (entry : Entry) → IsEntryLine Three entry
     → length (full_tail (entry.stamp.node, (entry.client, (entry.name, (entry.mode, entry.stamp.seq))))) ≤ 99
 entry_length entry h =
     full_length entry.stamp.node entry.client entry.stamp.seq entry.name entry.mode (node_length entry.stamp.node h.0)
@@ -68,6 +68,13 @@ body_is_short (First One nodes start) h =
 body_is_short (First Two nodes start) h =
     after_words (codes "trace 2 ") (first_tail (nodes, start)) 41 (two (decimal nodes) (decimal start) 20 20 (node_length nodes h.0) (number_length start h.1))
     (omega arith)
+body_is_short (First Three nodes start) h =
+    after_words (codes "trace 3 ") (third_tail (nodes, (Three, start))) 41 (two (decimal nodes) (decimal start) 20 20 (node_length nodes h.0) (number_length start h.1))
+    (omega arith)
+body_is_short (First ThreeWithSends nodes start) h =
+    after_words (codes "trace 3 ") (third_tail (nodes, (ThreeWithSends, start))) 47
+    (two (decimal nodes) (decimal start ++ codes " sends") 20 26 (node_length nodes h.0) (omega (arith, number_length start h.1, length-append (decimal start) (codes " sends"))))
+    (omega arith)
 body_is_short (Stepped (Ask node client name mode)) h =
     after_words (codes "ask ") (ask_tail (node, (client, (name, mode)))) 78
     (two (decimal node) _ 20 57 (node_length node h.0)
@@ -77,6 +84,11 @@ body_is_short (Stepped (Leave node client name)) h =
     after_words (codes "release ") (leave_tail (node, (client, name))) 74
     (two (decimal node) _ 20 53 (node_length node h.0) (two (decimal client) name 20 32 (client_length client h.1) h.2.not_long))
     (omega arith)
+body_is_short (Stepped (Cancel node client name)) h =
+    after_words (codes "cancel ") (leave_tail (node, (client, name))) 74
+    (two (decimal node) _ 20 53 (node_length node h.1) (two (decimal client) name 20 32 (client_length client h.2) h.3.not_long))
+    (omega arith)
+body_is_short (Stepped (Forget node)) h = after_words (codes "forget ") (decimal node) 20 (node_length node h.1) (omega arith)
 body_is_short (Stepped (Deliver (Request from to name mode seq))) h =
     after_words (codes "deliver request ") (full_tail (from, (to, (name, (mode, seq))))) 99
     (full_length from to seq name mode (node_length from h.0) (node_length to h.1) h.2 h.4) (omega arith)
@@ -92,7 +104,13 @@ body_is_short (Stepped (Repeat (Request from to name mode seq))) (may, h) =
     (full_length from to seq name mode (node_length from h.0) (node_length to h.1) h.2 h.4) (omega arith)
 body_is_short (Stepped (Repeat (Reply from to name seq))) (may, h) =
     after_words (codes "repeat reply ") (reply_tail (from, (to, (name, seq)))) 95 (reply_length from to seq name h.0 h.1 h.2 h.3) (omega arith)
+body_is_short (Sent (Request from to name mode seq)) h =
+    after_words (codes "send request ") (full_tail (from, (to, (name, (mode, seq))))) 99
+    (full_length from to seq name mode (node_length from h.0) (node_length to h.1) h.2 h.4) (omega arith)
+body_is_short (Sent (Reply from to name seq)) h =
+    after_words (codes "send reply ") (reply_tail (from, (to, (name, seq)))) 95 (reply_length from to seq name h.0 h.1 h.2 h.3) (omega arith)
 body_is_short (Marked (Requested entry)) h = after_words (codes "request ") _ 99 (entry_length entry h) (omega arith)
 body_is_short (Marked (Entered entry)) h = after_words (codes "enter ") _ 99 (entry_length entry h) (omega arith)
 body_is_short (Marked (Left entry)) h = after_words (codes "leave ") _ 99 (entry_length entry h) (omega arith)
+body_is_short (Marked (Withdrawn entry)) (may, h) = after_words (codes "withdraw ") _ 99 (entry_length entry h) (omega arith)
 body_is_short Last h = omega arith

@@ -3,7 +3,7 @@ use Rattle.std.proofs.Common.{◌≡◌, ◌≤◌, List, All, Any, Contains, sy
 use Rattle.std.proofs.lemmas.List.Elements.{All-contains}
 use Rattle.ra_stamp.specs.declared.entry.Entry.{Entry}
 use Rattle.ra_stamp.specs.declared.entry.Mark.{Mark}
-use Rattle.ra_stamp.specs.declared.entry.Mark.TheVariants.{Requested, Entered, Left}
+use Rattle.ra_stamp.specs.declared.entry.Mark.TheVariants.{Requested, Entered, Left, Withdrawn}
 use Rattle.ra_stamp.specs.Stamp.{IsEarlier}
 use Rattle.ra_table.specs.Table.{LockTable, Excludes, MayRequest}
 use Rattle.ra_table.specs.Refusals.{SharesNodeAndName, IsNodeBusy, IsNotAbove, IsHeld}
@@ -40,6 +40,7 @@ refused_is_not_allowed table (Entered e) why (inr (inr earlier)) (next, step) =
     let may = step.0 in
     not_any (λ x. Excludes x e × IsEarlier x.stamp e.stamp) table.waiting (λ k d lt before. may.no_earlier k d lt before.0 before.1) earlier.3
 refused_is_not_allowed table (Left e) why absent (next, step) = absent.1 step.0
+refused_is_not_allowed table (Withdrawn e) why absent (next, step) = absent.1 step.0
 
 -- ---- One cause
 
@@ -58,6 +59,7 @@ one_cause table (Entered e) a b (inr (inr x)) (inl y) = absurd (y.1 x.1)
 one_cause table (Entered e) a b (inr (inr x)) (inr (inl y)) = absurd (x.2 y.2)
 one_cause table (Entered e) a b (inr (inr x)) (inr (inr y)) = x.0 ∙ sym y.0
 one_cause table (Left e) a b x y = x.0 ∙ sym y.0
+one_cause table (Withdrawn e) a b x y = x.0 ∙ sym y.0
 
 -- ---- Tables of one run
 
@@ -94,3 +96,4 @@ refuses_alike a b (Entered e) why same (inr (inr h)) = inr (inr (
   any_in (λ x. Excludes x e × IsEarlier x.stamp e.stamp) a.waiting b.waiting (λ x. (same.waiting x).0) h.3,
 ))
 refuses_alike a b (Left e) why same h = (h.0, λ holds. h.1 ((same.holding e).1 holds))
+refuses_alike a b (Withdrawn e) why same h = (h.0, λ waits. h.1 ((same.waiting e).1 waits))

@@ -11,7 +11,7 @@ use Rattle.ra_trace.specs.declared.line.Line.TheVariants.{Marked}
 use Rattle.ra_trace.specs.declared.mark_log.marks_verdict.MarkCause.{MarkCause}
 use Rattle.ra_trace.specs.declared.mark_log.marks_verdict.MarksVerdict.{MarksVerdict}
 use Rattle.ra_trace.specs.declared.mark_log.marks_verdict.MarksVerdict.TheVariants.{Valid, Invalid}
-use Rattle.ra_trace.specs.declared.line.version.Version.TheVariants.{Two}
+use Rattle.ra_trace.specs.declared.line.version.Version.TheVariants.{Three}
 use Rattle.ra_trace.specs.TraceText.{IsMarkLine}
 use Rattle.ra_trace.specs.Marks.{marks_text, IsMarkRun, grants_in, BeginsWithMark, TableRefuses, IsWrongMark, IsMarksVerdict}
 use Rattle.ra_trace.specs.MarksAlong.{TableLaws}
@@ -26,7 +26,7 @@ same_mark a b e = cc
 one_mark : (text : List ℕ) (a b : Mark) (r s : List ℕ) → BeginsWithMark text a r → BeginsWithMark text b s → (a ≡ b) × (r ≡ s)
 one_mark text a b r s p q = let same = begins_once text (Marked a) (Marked b) r s p q in (same_mark a b same.0, same.1)
 
-begins_so : (mark : Mark) (marks : List Mark) (rest : List ℕ) → IsMarkLine Two mark
+begins_so : (mark : Mark) (marks : List Mark) (rest : List ℕ) → IsMarkLine Three mark
     → BeginsWithMark (marks_text (mark ∷ marks) ++ rest) mark (marks_text marks ++ rest)
 begins_so mark marks rest fits = (fits, append_assoc (mark_line mark) (marks_text marks) rest)
 
@@ -38,16 +38,16 @@ record Longer (shorter longer : List Mark) (left right : List ℕ) : Type 0 wher
   longer_is : longer ≡ shorter ++ more
   left_is : left ≡ marks_text more ++ right
 
-longer_or_not : (a b : List Mark) (r s : List ℕ) → All (IsMarkLine Two) a → All (IsMarkLine Two) b → marks_text a ++ r ≡ marks_text b ++ s
+longer_or_not : (a b : List Mark) (r s : List ℕ) → All (IsMarkLine Three) a → All (IsMarkLine Three) b → marks_text a ++ r ≡ marks_text b ++ s
     → Longer a b r s ⊎ Longer b a s r
 longer_or_not [] b r s p q e = inl (record { more = b; longer_is = refl; left_is = e })
 longer_or_not (x ∷ a) [] r s p q e = inr (record { more = x ∷ a; longer_is = refl; left_is = sym e })
 longer_or_not (x ∷ a) (y ∷ b) r s p q e =
-    let here = begins_so x a r (All-head (IsMarkLine Two) x a p) in
-    let there = begins_so y b s (All-head (IsMarkLine Two) y b q) in
+    let here = begins_so x a r (All-head (IsMarkLine Three) x a p) in
+    let there = begins_so y b s (All-head (IsMarkLine Three) y b q) in
     let same = one_mark (marks_text (x ∷ a) ++ r) x y (marks_text a ++ r) (marks_text b ++ s) here (there.0, e ∙ there.1) in
     let first : x ≡ y = same.0 in
-    elim (longer_or_not a b r s (All-tail (IsMarkLine Two) x a p) (All-tail (IsMarkLine Two) y b q) same.1) [
+    elim (longer_or_not a b r s (All-tail (IsMarkLine Three) x a p) (All-tail (IsMarkLine Three) y b q) same.1) [
       | inl h ↦ inl (record { more = h.more; longer_is = let is = h.longer_is in cc; left_is = h.left_is })
       | inr h ↦ inr (record { more = h.more; longer_is = let is = h.longer_is in cc; left_is = h.left_is })
     ]
@@ -87,7 +87,7 @@ no_more laws prefix marks r s why wrong whole h = at h.more h.longer_is h.left_i
     at [] is left = record { marks = sym (is ∙ append-nil prefix); rest = left }
     at (x ∷ more) is left =
         let run : IsMarkRun (prefix ++ x ∷ more) = subst IsMarkRun is whole in
-        let begins = begins_so x more s (All-at (IsMarkLine Two) prefix x more run.lines) in
+        let begins = begins_so x more s (All-at (IsMarkLine Three) prefix x more run.lines) in
         absurd (next_is_not_wrong laws prefix more x r (marks_text more ++ s) why run (begins.0, left ∙ begins.1) wrong)
 
 -- if nothing is left there are no more marks

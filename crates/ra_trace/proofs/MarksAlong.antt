@@ -6,7 +6,7 @@ use Rattle.std.proofs.lemmas.List.{nil_from_length}
 use Rattle.std.proofs.lemmas.List.Elements.{All-nil, All-cons, All-head, All-tail}
 use Rattle.std.proofs.lemmas.Grind.{flat_map-append}
 use Rattle.ra_stamp.specs.declared.entry.Mark.{Mark}
-use Rattle.ra_stamp.specs.declared.entry.Mark.TheVariants.{Requested, Entered, Left}
+use Rattle.ra_stamp.specs.declared.entry.Mark.TheVariants.{Requested, Entered, Left, Withdrawn}
 use Rattle.ra_table.specs.Table.{empty_table}
 use Rattle.ra_table.specs.Laws.{AllowsMark}
 use Rattle.ra_text.specs.Lines.{entry_fields, mark_line}
@@ -22,7 +22,7 @@ use Rattle.ra_trace.specs.declared.mark_log.marks_verdict.MarkCause.{MarkCause}
 use Rattle.ra_trace.specs.declared.mark_log.marks_verdict.MarkCause.TheVariants as cause
 use Rattle.ra_trace.specs.declared.mark_log.marks_verdict.MarksVerdict.TheVariants.{Valid, Invalid}
 use Rattle.ra_trace.specs.declared.line_source.byte_lines.LineEnd.TheVariants.{Feed}
-use Rattle.ra_trace.specs.declared.line.version.Version.TheVariants.{Two}
+use Rattle.ra_trace.specs.declared.line.version.Version.TheVariants.{Three}
 use Rattle.ra_trace.specs.Forms.{BeginsReadable}
 use Rattle.ra_trace.specs.NextLine.{EndsSo, TakesBytes, FailsWithin, HasNone}
 use Rattle.ra_trace.specs.TraceText.{IsMarkLine}
@@ -40,30 +40,35 @@ requests_after [] mark = omega arith
 requests_after (Requested e ∷ marks) mark = omega (arith, requests_after marks mark)
 requests_after (Entered e ∷ marks) mark = requests_after marks mark
 requests_after (Left e ∷ marks) mark = requests_after marks mark
+requests_after (Withdrawn e ∷ marks) mark = requests_after marks mark
 
 grants_after : (marks : List Mark) (mark : Mark) → grants_in (marks ++ mark ∷ []) ≡ grants_in marks + grants_in (mark ∷ [])
 grants_after [] mark = omega arith
 grants_after (Requested e ∷ marks) mark = grants_after marks mark
 grants_after (Entered e ∷ marks) mark = omega (arith, grants_after marks mark)
 grants_after (Left e ∷ marks) mark = grants_after marks mark
+grants_after (Withdrawn e ∷ marks) mark = grants_after marks mark
 
 few_requests : (marks : List Mark) → requests_in marks ≤ length marks
 few_requests [] = omega arith
 few_requests (Requested e ∷ marks) = omega (arith, few_requests marks)
 few_requests (Entered e ∷ marks) = omega (arith, few_requests marks)
 few_requests (Left e ∷ marks) = omega (arith, few_requests marks)
+few_requests (Withdrawn e ∷ marks) = omega (arith, few_requests marks)
 
 few_grants : (marks : List Mark) → grants_in marks ≤ length marks
 few_grants [] = omega arith
 few_grants (Requested e ∷ marks) = omega (arith, few_grants marks)
 few_grants (Entered e ∷ marks) = omega (arith, few_grants marks)
 few_grants (Left e ∷ marks) = omega (arith, few_grants marks)
+few_grants (Withdrawn e ∷ marks) = omega (arith, few_grants marks)
 
 -- each mark has a byte at least
 mark_has_length : (mark : Mark) → 1 ≤ length (mark_line mark)
 mark_has_length (Requested e) = omega (arith, length-append (codes "request") (entry_fields e ++ codes "\n"))
 mark_has_length (Entered e) = omega (arith, length-append (codes "enter") (entry_fields e ++ codes "\n"))
 mark_has_length (Left e) = omega (arith, length-append (codes "leave") (entry_fields e ++ codes "\n"))
+mark_has_length (Withdrawn e) = omega (arith, length-append (codes "withdraw") (entry_fields e ++ codes "\n"))
 
 marks_have_length : (marks : List Mark) → length marks ≤ length (marks_text marks)
 marks_have_length [] = omega arith
@@ -212,7 +217,7 @@ more_there laws limit left old now new log after number mark bytes along taken b
       room = more.1;
       number_is = omega (arith, along.number_is, length-append along.marks (mark ∷ []));
       so_far = record {
-        lines = All-push (IsMarkLine Two) along.marks mark so_far.lines begins.0;
+        lines = All-push (IsMarkLine Three) along.marks mark so_far.lines begins.0;
         run = laws.steps_on along.marks mark log.table after.table so_far.run takes.step;
         requests_is = omega (arith, takes.requests_is, so_far.requests_is, requests_after along.marks mark);
         grants_is = omega (arith, takes.grants_is, so_far.grants_is, grants_after along.marks mark);
@@ -228,7 +233,7 @@ memory_there laws limit left old now new log number mark bytes along taken begin
     let more = taken_more limit left old now new log number mark bytes along taken begins in
     let next = (laws.goes_on along.marks mark log.table so_far.run).0 allowed in (
       along.marks ++ mark ∷ [],
-      record { lines = All-push (IsMarkLine Two) along.marks mark so_far.lines begins.0; table = next.0; run = next.1 },
+      record { lines = All-push (IsMarkLine Three) along.marks mark so_far.lines begins.0; table = next.0; run = next.1 },
       more.0,
       omega (arith, more.1),
     )
@@ -267,6 +272,8 @@ turns_by laws limit left old now new log after number (line.First version nodes 
     other_turns limit left old now new log after number (line.First version nodes start) bytes result along taken begins ended (λ mark e. cc) is
 turns_by laws limit left old now new log after number (line.Stepped step) bytes result along taken begins ended is =
     other_turns limit left old now new log after number (line.Stepped step) bytes result along taken begins ended (λ mark e. cc) is
+turns_by laws limit left old now new log after number (line.Sent message) bytes result along taken begins ended is =
+    other_turns limit left old now new log after number (line.Sent message) bytes result along taken begins ended (λ mark e. cc) is
 turns_by laws limit left old now new log after number (line.Marked mark) bytes result along taken begins ended is =
     mark_turns laws limit left old now new log after number mark bytes result along taken begins ended is
 turns_by laws limit left old now new log after number line.Last bytes result along taken begins ended is =
@@ -299,7 +306,7 @@ none_taken left count (Wrong why) is = tt
 -- there is no memory for a log
 pub no_log : TableLaws → (limit : ℕ) (old : Option (List ℕ)) → StopsAfterMarks limit old old
 no_log laws limit old =
-    ([], record { lines = All-nil (IsMarkLine Two); table = empty_table; run = laws.empty }, nothing_taken old, omega arith)
+    ([], record { lines = All-nil (IsMarkLine Three); table = empty_table; run = laws.empty }, nothing_taken old, omega arith)
 
 -- what is left if it is neither wrong nor the end
 pub right_turns : (limit left : ℕ) (old new : Option (List ℕ)) (after : MarkLog) (number count : ℕ) (next : MarkJudgement)

@@ -4,15 +4,15 @@ use Rattle.std.specs.Prelude.{All, flat_map}
 use Rattle.std.proofs.lemmas.List.{append-nil}
 use Rattle.std.proofs.lemmas.List.Elements.{All-head, All-tail, All-nil, All-weaker}
 use Rattle.ra_stamp.specs.declared.entry.Mark.{Mark}
-use Rattle.ra_stamp.specs.declared.entry.Mark.TheVariants.{Requested, Entered, Left}
+use Rattle.ra_stamp.specs.declared.entry.Mark.TheVariants.{Requested, Entered, Left, Withdrawn}
 use Rattle.ra_text.specs.Lines.{mark_line}
 use Rattle.ra_world.specs.declared.step.Step.{Step}
-use Rattle.ra_world.specs.declared.step.Step.TheVariants.{Ask, Leave, Deliver, Lose, Repeat}
+use Rattle.ra_world.specs.declared.step.Step.TheVariants.{Ask, Leave, Cancel, Deliver, Lose, Repeat, Forget}
 use Rattle.ra_world.specs.Traffic.{Move, sent_by}
 use Rattle.ra_world.specs.Run.{GoesOn, marks_of}
 use Rattle.ra_world.specs.Quiet.{requests_in}
 use Rattle.ra_trace.specs.declared.line.Line.{Line}
-use Rattle.ra_trace.specs.declared.line.Line.TheVariants.{First, Stepped, Marked, Last}
+use Rattle.ra_trace.specs.declared.line.Line.TheVariants.{First, Stepped, Sent, Marked, Last}
 use Rattle.ra_trace.specs.declared.checker.verdict.Cause.{Cause}
 use Rattle.ra_trace.specs.declared.checker.verdict.Cause.TheVariants as cause
 use Rattle.ra_trace.specs.declared.checker.verdict.Verdict.{Verdict}
@@ -20,7 +20,7 @@ use Rattle.ra_trace.specs.declared.checker.verdict.Verdict.TheVariants.{Valid, I
 use Rattle.ra_trace.specs.declared.line.version.Version.{Version}
 use Rattle.ra_trace.specs.Forms.{IsReadable, BeginsReadable}
 use Rattle.ra_trace.specs.TraceText.{IsLine, IsTraceIn, BeginsWith, step_line, line_text, trace_lines}
-use Rattle.ra_trace.specs.Verdict.{IsTracePrefix, TableGoesOn, IsOfClient, IsOfMessage, IsFirst, HasNoLine, IsUndue, IsWrong, IsVerdict, marks_in}
+use Rattle.ra_trace.specs.Verdict.{Due, IsTracePrefix, marks_due, TableGoesOn, IsOfClient, IsOfMessage, IsFirst, HasNoLine, IsUnsent, IsUndue, IsWrong, IsVerdict, marks_in}
 use Rattle.ra_trace.specs.Below.{LawsBelow}
 use Rattle.ra_trace.proofs.Lines.{begins_once, begins_in_one}
 use Rattle.ra_trace.proofs.Versions.{readable}
@@ -28,24 +28,30 @@ use Rattle.ra_trace.proofs.Prefixes.{MayFollow, not_empty, one_prefix, in_prefix
 
 -- ---- What is wrong with a line that is there
 
--- the line has its form and its place, but is wrong for this cause
-abbrev pub Blame : ℕ → ℕ → List Move → List Mark → List Line → Line → Cause → Type 0
-Blame n start moves due prefix (First named nodes from) why = ⊥
-Blame n start moves due prefix (Stepped step) why =
+-- no message is still to be told, and the line has its form and its place, but is wrong for this cause
+abbrev BlameMarks : ℕ → ℕ → List Move → List Mark → List Line → Line → Cause → Type 0
+BlameMarks n start moves due prefix (First named nodes from) why = ⊥
+BlameMarks n start moves due prefix (Stepped step) why =
     ((due ≢ []) × (why ≡ cause.Marks))
     ⊎ ((due ≡ []) × (GoesOn n start moves step → ⊥) × IsOfClient step × (why ≡ cause.Refused))
     ⊎ ((due ≡ []) × (GoesOn n start moves step → ⊥) × IsOfMessage step × (why ≡ cause.NotUnderWay))
-Blame n start moves due prefix (Marked mark) why =
+BlameMarks n start moves due prefix (Sent message) why = ⊥
+BlameMarks n start moves due prefix (Marked mark) why =
     ((TableGoesOn (marks_in prefix) mark → ⊥) × (why ≡ cause.Table))
     ⊎ (TableGoesOn (marks_in prefix) mark × ((others : List Mark) → due ≢ mark ∷ others) × (why ≡ cause.Marks))
-Blame n start moves due prefix Last why = (due ≢ []) × (why ≡ cause.Marks)
+BlameMarks n start moves due prefix Last why = (due ≢ []) × (why ≡ cause.Marks)
+
+-- the line has its form and its place, but is wrong for this cause
+abbrev pub Blame : ℕ → ℕ → List Move → Due → List Line → Line → Cause → Type 0
+Blame n start moves due prefix line why =
+    (IsUnsent due.sends line × (why ≡ cause.Sends)) ⊎ ((due.sends ≡ []) × BlameMarks n start moves due.marks prefix line why)
 
 record Blamed (prefix : List Line) (text : List ℕ) (why : Cause) : Type 0 where
   version : Version
   n : ℕ
   start : ℕ
   moves : List Move
-  due : List Mark
+  due : Due
   so_far : IsTracePrefix version n start moves due prefix
   line : Line
   rest : List ℕ
@@ -53,29 +59,43 @@ record Blamed (prefix : List Line) (text : List ℕ) (why : Cause) : Type 0 wher
   blame : Blame n start moves due prefix line why
 
 undue : (n start : ℕ) (moves : List Move) (due : List Mark) (prefix : List Line) (line : Line) → IsUndue (marks_in prefix) due line
-    → Blame n start moves due prefix line cause.Marks
+    → BlameMarks n start moves due prefix line cause.Marks
 undue n start moves due prefix (First named nodes from) u = u
 undue n start moves due prefix (Stepped step) u = inl (u, refl)
+undue n start moves due prefix (Sent message) u = u
 undue n start moves due prefix (Marked mark) u = inr (u.0, u.1, refl)
 undue n start moves due prefix Last u = (u, refl)
 
 blamed : (prefix : List Line) (text : List ℕ) (why : Cause) → IsWrong prefix text why
     → ((why ≡ cause.Line) × HasNoLine prefix text) ⊎ Blamed prefix text why
 blamed prefix text cause.Line w = inl (refl, w)
+blamed prefix text cause.Sends (version, n, start, moves, due, so_far, line, rest, begins, unsent) =
+    inr (record { version = version; n = n; start = start; moves = moves; due = due; so_far = so_far; line = line; rest = rest; begins = begins; blame = inl (unsent, refl) })
 blamed prefix text cause.Table (version, n, start, moves, due, so_far, mark, rest, begins, refused) =
-    inr (record { version = version; n = n; start = start; moves = moves; due = due; so_far = so_far; line = Marked mark; rest = rest; begins = begins; blame = inl (refused, refl) })
+    inr (record {
+      version = version;
+      n = n;
+      start = start;
+      moves = moves;
+      due = marks_due due;
+      so_far = so_far;
+      line = Marked mark;
+      rest = rest;
+      begins = begins;
+      blame = inr (refl, inl (refused, refl));
+    })
 blamed prefix text cause.Marks (version, n, start, moves, due, so_far, line, rest, begins, u) =
     inr (record {
       version = version;
       n = n;
       start = start;
       moves = moves;
-      due = due;
+      due = marks_due due;
       so_far = so_far;
       line = line;
       rest = rest;
       begins = begins;
-      blame = undue n start moves due prefix line u;
+      blame = inr (refl, undue n start moves due prefix line u);
     })
 blamed prefix text cause.Refused (version, n, start, moves, so_far, step, rest, begins, of_client, stops) =
     inr (record {
@@ -83,12 +103,12 @@ blamed prefix text cause.Refused (version, n, start, moves, so_far, step, rest, 
       n = n;
       start = start;
       moves = moves;
-      due = [];
+      due = marks_due [];
       so_far = so_far;
       line = Stepped step;
       rest = rest;
       begins = begins;
-      blame = inr (inl (refl, stops, of_client, refl));
+      blame = inr (refl, inr (inl (refl, stops, of_client, refl)));
     })
 blamed prefix text cause.NotUnderWay (version, n, start, moves, so_far, step, rest, begins, takes, stops) =
     inr (record {
@@ -96,30 +116,34 @@ blamed prefix text cause.NotUnderWay (version, n, start, moves, so_far, step, re
       n = n;
       start = start;
       moves = moves;
-      due = [];
+      due = marks_due [];
       so_far = so_far;
       line = Stepped step;
       rest = rest;
       begins = begins;
-      blame = inr (inr (refl, stops, takes, refl));
+      blame = inr (refl, inr (inr (refl, stops, takes, refl)));
     })
 
 not_both : (step : Step) → IsOfClient step → IsOfMessage step → ⊥
 not_both (Ask node client name mode) a b = b
 not_both (Leave node client name) a b = b
+not_both (Cancel node client name) a b = b
 not_both (Deliver message) a b = a
 not_both (Lose message) a b = a
 not_both (Repeat message) a b = a
+not_both (Forget node) a b = b
 
-first_is_not_blamed : (n start : ℕ) (moves : List Move) (due : List Mark) (prefix : List Line) (line : Line) (why : Cause) → IsFirst line
+first_is_not_blamed : (n start : ℕ) (moves : List Move) (due : Due) (prefix : List Line) (line : Line) (why : Cause) → IsFirst line
     → Blame n start moves due prefix line why → ⊥
-first_is_not_blamed n start moves due prefix (First named nodes from) why first b = b
+first_is_not_blamed n start moves due prefix (First named nodes from) why first (inl b) = b.0
+first_is_not_blamed n start moves due prefix (First named nodes from) why first (inr b) = b.1
 first_is_not_blamed n start moves due prefix (Stepped step) why first b = first
+first_is_not_blamed n start moves due prefix (Sent message) why first b = first
 first_is_not_blamed n start moves due prefix (Marked mark) why first b = first
 first_is_not_blamed n start moves due prefix Last why first b = first
 
 step_blamed_once : (n start : ℕ) (moves : List Move) (due : List Mark) (prefix : List Line) (step : Step) (why other : Cause)
-    → Blame n start moves due prefix (Stepped step) why → Blame n start moves due prefix (Stepped step) other → why ≡ other
+    → BlameMarks n start moves due prefix (Stepped step) why → BlameMarks n start moves due prefix (Stepped step) other → why ≡ other
 step_blamed_once n start moves due prefix step why other (inl a) (inl b) = a.1 ∙ sym b.1
 step_blamed_once n start moves due prefix step why other (inl a) (inr (inl b)) = absurd (a.0 b.0)
 step_blamed_once n start moves due prefix step why other (inl a) (inr (inr b)) = absurd (a.0 b.0)
@@ -131,18 +155,35 @@ step_blamed_once n start moves due prefix step why other (inr (inr a)) (inr (inl
 step_blamed_once n start moves due prefix step why other (inr (inr a)) (inr (inr b)) = a.3 ∙ sym b.3
 
 mark_blamed_once : (n start : ℕ) (moves : List Move) (due : List Mark) (prefix : List Line) (mark : Mark) (why other : Cause)
-    → Blame n start moves due prefix (Marked mark) why → Blame n start moves due prefix (Marked mark) other → why ≡ other
+    → BlameMarks n start moves due prefix (Marked mark) why → BlameMarks n start moves due prefix (Marked mark) other → why ≡ other
 mark_blamed_once n start moves due prefix mark why other (inl a) (inl b) = a.1 ∙ sym b.1
 mark_blamed_once n start moves due prefix mark why other (inl a) (inr b) = absurd (a.0 b.0)
 mark_blamed_once n start moves due prefix mark why other (inr a) (inl b) = absurd (b.0 a.0)
 mark_blamed_once n start moves due prefix mark why other (inr a) (inr b) = a.2 ∙ sym b.2
 
-blamed_once : (n start : ℕ) (moves : List Move) (due : List Mark) (prefix : List Line) (line : Line) (why other : Cause)
+marks_blamed_once : (n start : ℕ) (moves : List Move) (due : List Mark) (prefix : List Line) (line : Line) (why other : Cause)
+    → BlameMarks n start moves due prefix line why → BlameMarks n start moves due prefix line other → why ≡ other
+marks_blamed_once n start moves due prefix (First named nodes from) why other a b = absurd a
+marks_blamed_once n start moves due prefix (Stepped step) why other a b = step_blamed_once n start moves due prefix step why other a b
+marks_blamed_once n start moves due prefix (Sent message) why other a b = absurd a
+marks_blamed_once n start moves due prefix (Marked mark) why other a b = mark_blamed_once n start moves due prefix mark why other a b
+marks_blamed_once n start moves due prefix Last why other a b = a.1 ∙ sym b.1
+
+-- a line that is wrong for a message is not wrong if none is still to be told
+not_sends_and_marks : (n start : ℕ) (moves : List Move) (due : Due) (prefix : List Line) (line : Line) (why : Cause)
+    → IsUnsent due.sends line → due.sends ≡ [] → BlameMarks n start moves due.marks prefix line why → ⊥
+not_sends_and_marks n start moves due prefix (First named nodes from) why unsent none b = b
+not_sends_and_marks n start moves due prefix (Stepped step) why unsent none b = unsent none
+not_sends_and_marks n start moves due prefix (Sent message) why unsent none b = b
+not_sends_and_marks n start moves due prefix (Marked mark) why unsent none b = unsent none
+not_sends_and_marks n start moves due prefix Last why unsent none b = unsent none
+
+blamed_once : (n start : ℕ) (moves : List Move) (due : Due) (prefix : List Line) (line : Line) (why other : Cause)
     → Blame n start moves due prefix line why → Blame n start moves due prefix line other → why ≡ other
-blamed_once n start moves due prefix (First named nodes from) why other a b = absurd a
-blamed_once n start moves due prefix (Stepped step) why other a b = step_blamed_once n start moves due prefix step why other a b
-blamed_once n start moves due prefix (Marked mark) why other a b = mark_blamed_once n start moves due prefix mark why other a b
-blamed_once n start moves due prefix Last why other a b = a.1 ∙ sym b.1
+blamed_once n start moves due prefix line why other (inl a) (inl b) = a.1 ∙ sym b.1
+blamed_once n start moves due prefix line why other (inl a) (inr b) = absurd (not_sends_and_marks n start moves due prefix line other a.0 b.0 b.1)
+blamed_once n start moves due prefix line why other (inr a) (inl b) = absurd (not_sends_and_marks n start moves due prefix line why b.0 a.0 a.1)
+blamed_once n start moves due prefix line why other (inr a) (inr b) = marks_blamed_once n start moves due.marks prefix line why other a.1 b.1
 
 -- ---- One cause
 
@@ -161,7 +202,7 @@ one_blame laws prefix text why other a b =
     let line = (begins_in_one b.version a.version text b.line a.line b.rest a.rest b.begins a.begins).0 in
     let there : Blame a.n a.start a.moves a.due prefix a.line other =
     subst (λ (l : Line). Blame a.n a.start a.moves a.due prefix l other) line
-    (subst (λ (ms : List Mark). Blame a.n a.start a.moves ms prefix b.line other) same.left
+    (subst (λ (d : Due). Blame a.n a.start a.moves d prefix b.line other) same.left
     (subst (λ (ms : List Move). Blame a.n a.start ms b.due prefix b.line other) same.run
     (subst (λ (s : ℕ). Blame a.n s b.moves b.due prefix b.line other) same.from
     (subst (λ (m : ℕ). Blame m b.start b.moves b.due prefix b.line other) same.count b.blame)))) in
@@ -184,16 +225,18 @@ one_cause laws prefix text why other p q =
 
 -- what is after a line that may come next
 after_next : (version : Version) (prefix : List Line) (line : Line) → MayFollow version prefix line
-    → (IsFirst line × (prefix ≡ [])) ⊎ ((n start : ℕ) × (moves : List Move) × (due : List Mark) × IsTracePrefix version n start moves due prefix)
+    → (IsFirst line × (prefix ≡ [])) ⊎ ((n start : ℕ) × (moves : List Move) × (due : Due) × IsTracePrefix version n start moves due prefix)
 after_next version prefix (First named nodes from) next = inl (tt, next)
-after_next version prefix (Stepped step) (n, start, moves, so_far, goes) = inr (n, start, moves, [], so_far)
-after_next version prefix (Marked mark) (n, start, moves, others, so_far, goes) = inr (n, start, moves, mark ∷ others, so_far)
-after_next version prefix Last (n, start, moves, so_far) = inr (n, start, moves, [], so_far)
+after_next version prefix (Stepped step) (n, start, moves, so_far, goes) = inr (n, start, moves, marks_due [], so_far)
+after_next version prefix (Sent message) (n, start, moves, others, marks, so_far) = inr (n, start, moves, record { sends = message ∷ others; marks = marks }, so_far)
+after_next version prefix (Marked mark) (n, start, moves, others, so_far, goes) = inr (n, start, moves, marks_due (mark ∷ others), so_far)
+after_next version prefix Last (n, start, moves, so_far) = inr (n, start, moves, marks_due [], so_far)
 
 -- a first line has none before it
 first_after_nothing : (version : Version) (prefix : List Line) (line : Line) → MayFollow version prefix line → IsFirst line → prefix ≡ []
 first_after_nothing version prefix (First named nodes from) next first = next
 first_after_nothing version prefix (Stepped step) next first = absurd first
+first_after_nothing version prefix (Sent message) next first = absurd first
 first_after_nothing version prefix (Marked mark) next first = absurd first
 first_after_nothing version prefix Last next first = absurd first
 
@@ -202,23 +245,42 @@ goes_on_too : (n start : ℕ) (moves : List Move) (n' start' : ℕ) (moves' : Li
 goes_on_too n start moves n' start' moves' step p q r g =
     subst (λ (ms : List Move). GoesOn n' start' ms step) r (subst (λ (s : ℕ). GoesOn n' s moves step) q (subst (λ (m : ℕ). GoesOn m start moves step) p g))
 
-next_is_not_blamed : LawsBelow → (version second : Version) (n start : ℕ) (moves : List Move) (due : List Mark) (prefix : List Line) (line : Line) (why : Cause)
+-- what is due in one way is due in any other
+same_sends : {a b : Due} → a ≡ b → a.sends ≡ b.sends
+same_sends same = ap (λ (d : Due). d.sends) same
+
+same_marks : {a b : Due} → a ≡ b → a.marks ≡ b.marks
+same_marks same = ap (λ (d : Due). d.marks) same
+
+next_is_not_blamed : LawsBelow → (version second : Version) (n start : ℕ) (moves : List Move) (due : Due) (prefix : List Line) (line : Line) (why : Cause)
     → IsTracePrefix second n start moves due prefix → MayFollow version prefix line → Blame n start moves due prefix line why → ⊥
-next_is_not_blamed laws version second n start moves due prefix (First named nodes from) why so_far next b = b
+next_is_not_blamed laws version second n start moves due prefix (First named nodes from) why so_far next b =
+    elim b [ inl unsent ↦ unsent.0 | inr marks ↦ marks.1 ]
 next_is_not_blamed laws version second n start moves due prefix (Stepped step) why so_far (n', start', moves', there, goes) b =
-    let same = one_prefix laws version n' start' moves' [] second n start moves due prefix there so_far in
+    let same = one_prefix laws version n' start' moves' (marks_due []) second n start moves due prefix there so_far in
     let on = goes_on_too n' start' moves' n start moves step same.count same.from same.run goes in
     elim b [
-      | inl marks ↦ marks.0 (sym same.left)
-      | inr other ↦ elim other [ inl refused ↦ refused.1 on | inr gone ↦ gone.1 on ]
+      | inl unsent ↦ unsent.0 (sym (same_sends same.left))
+      | inr rest ↦ elim rest.1 [
+        | inl marks ↦ marks.0 (sym (same_marks same.left))
+        | inr other ↦ elim other [ inl refused ↦ refused.1 on | inr gone ↦ gone.1 on ]
+      ]
     ]
+next_is_not_blamed laws version second n start moves due prefix (Sent message) why so_far (n', start', moves', others, marks, there) b =
+    let same = one_prefix laws version n' start' moves' (record { sends = message ∷ others; marks = marks }) second n start moves due prefix there so_far in
+    elim b [ inl unsent ↦ unsent.0 others (sym (same_sends same.left)) | inr rest ↦ rest.1 ]
 next_is_not_blamed laws version second n start moves due prefix (Marked mark) why so_far (n', start', moves', others, there, goes) b =
+    let same = one_prefix laws version n' start' moves' (marks_due (mark ∷ others)) second n start moves due prefix there so_far in
     elim b [
-      | inl table ↦ table.0 goes
-      | inr marks ↦ marks.1 others (sym (one_prefix laws version n' start' moves' (mark ∷ others) second n start moves due prefix there so_far).left)
+      | inl unsent ↦ unsent.0 (sym (same_sends same.left))
+      | inr rest ↦ elim rest.1 [
+        | inl table ↦ table.0 goes
+        | inr wrong ↦ wrong.1 others (sym (same_marks same.left))
+      ]
     ]
 next_is_not_blamed laws version second n start moves due prefix Last why so_far (n', start', moves', there) b =
-    b.0 (sym (one_prefix laws version n' start' moves' [] second n start moves due prefix there so_far).left)
+    let same = one_prefix laws version n' start' moves' (marks_due []) second n start moves due prefix there so_far in
+    elim b [ inl unsent ↦ unsent.0 (sym (same_sends same.left)) | inr rest ↦ rest.1.0 (sym (same_marks same.left)) ]
 
 next_has_line : LawsBelow → (version : Version) (prefix : List Line) (line : Line) (text rest : List ℕ) → MayFollow version prefix line
     → BeginsWith version text line rest → HasNoLine prefix text → ⊥
@@ -258,7 +320,7 @@ next_is_not_wrong laws version prefix line text rest why next begins w =
 abbrev pub AreRight : List Line → Type 0
 AreRight lines =
     (lines ≡ [])
-    ⊎ ((version : Version) × (n start : ℕ) × (moves : List Move) × (due : List Mark) × IsTracePrefix version n start moves due lines)
+    ⊎ ((version : Version) × (n start : ℕ) × (moves : List Move) × (due : Due) × IsTracePrefix version n start moves due lines)
     ⊎ ((version : Version) × (n start : ℕ) × (moves : List Move) × (text : List ℕ) × IsTraceIn version n start moves text
     × (lines ≡ trace_lines version n start moves))
 
@@ -267,10 +329,11 @@ wrong_after_right prefix text cause.Line (inl none) = inl none.0
 wrong_after_right prefix text cause.Line (inr (inl (version, n, start, moves, due, so_far, any))) = inr (inl (version, n, start, moves, due, so_far))
 wrong_after_right prefix text cause.Line (inr (inr (version, n, start, moves, trace, whole, some))) =
     inr (inr (version, n, start, moves, flat_map line_text prefix, trace, whole))
-wrong_after_right prefix text cause.Table w = inr (inl (w.0, w.1, w.2, w.3, w.4, w.5))
-wrong_after_right prefix text cause.Marks w = inr (inl (w.0, w.1, w.2, w.3, w.4, w.5))
-wrong_after_right prefix text cause.Refused w = inr (inl (w.0, w.1, w.2, w.3, [], w.4))
-wrong_after_right prefix text cause.NotUnderWay w = inr (inl (w.0, w.1, w.2, w.3, [], w.4))
+wrong_after_right prefix text cause.Sends w = inr (inl (w.0, w.1, w.2, w.3, w.4, w.5))
+wrong_after_right prefix text cause.Table w = inr (inl (w.0, w.1, w.2, w.3, marks_due w.4, w.5))
+wrong_after_right prefix text cause.Marks w = inr (inl (w.0, w.1, w.2, w.3, marks_due w.4, w.5))
+wrong_after_right prefix text cause.Refused w = inr (inl (w.0, w.1, w.2, w.3, marks_due [], w.4))
+wrong_after_right prefix text cause.NotUnderWay w = inr (inl (w.0, w.1, w.2, w.3, marks_due [], w.4))
 
 all_readable : (version : Version) (lines : List Line) → All (IsLine version) lines → All IsReadable lines
 all_readable version lines each = All-weaker (IsLine version) IsReadable (readable version) lines each
@@ -356,17 +419,21 @@ mark_has_bytes : (mark : Mark) (rest : List ℕ) → [] ≡ mark_line mark ++ re
 mark_has_bytes (Requested entry) rest e = some_byte _ _ e
 mark_has_bytes (Entered entry) rest e = some_byte _ _ e
 mark_has_bytes (Left entry) rest e = some_byte _ _ e
+mark_has_bytes (Withdrawn entry) rest e = some_byte _ _ e
 
 step_has_bytes : (step : Step) (rest : List ℕ) → [] ≡ step_line step ++ rest → ⊥
 step_has_bytes (Ask node client name mode) rest e = some_byte _ _ e
 step_has_bytes (Leave node client name) rest e = some_byte _ _ e
 step_has_bytes (Deliver message) rest e = some_byte _ _ e
 step_has_bytes (Lose message) rest e = some_byte _ _ e
+step_has_bytes (Cancel node client name) rest e = some_byte _ _ e
 step_has_bytes (Repeat message) rest e = some_byte _ _ e
+step_has_bytes (Forget node) rest e = some_byte _ _ e
 
 pub line_has_bytes : (line : Line) (rest : List ℕ) → [] ≡ line_text line ++ rest → ⊥
 line_has_bytes (First version nodes start) rest e = some_byte _ _ e
 line_has_bytes (Stepped step) rest e = step_has_bytes step rest e
+line_has_bytes (Sent message) rest e = some_byte _ _ e
 line_has_bytes (Marked mark) rest e = mark_has_bytes mark rest e
 line_has_bytes Last rest e = some_byte _ _ e
 

@@ -1,6 +1,5 @@
--- Which mark is due at a line of a text.
-use Rattle.std.specs.Prelude.{◌≡◌, ℕ, ◌+◌, List, ◌++◌, Option, Result, Ok, IfSome, flat_map, length, slice_get}
-use Rattle.ra_stamp.specs.declared.entry.Mark.{Mark}
+-- Which line is due at a line of a text: that of a message or a mark of the step before.
+use Rattle.std.specs.Prelude.{◌≡◌, ℕ, ◌+◌, List, ◌++◌, ◌⊎◌, Option, Result, Ok, IfSome, flat_map, length, slice_get}
 use Rattle.ra_world.specs.Traffic.{Move}
 use Rattle.ra_trace.specs.declared.error.TraceError.{TraceError}
 use Rattle.ra_trace.specs.declared.line.Line.{Line}
@@ -9,11 +8,11 @@ use Rattle.ra_trace.specs.declared.checker.verdict.Verdict.{Verdict}
 use Rattle.ra_trace.specs.declared.checker.verdict.Verdict.TheVariants.{Invalid}
 use Rattle.ra_trace.specs.declared.line.version.Version.{Version}
 use Rattle.ra_trace.specs.TraceText.{line_text}
-use Rattle.ra_trace.specs.Verdict.{IsTracePrefix}
+use Rattle.ra_trace.specs.Verdict.{Due, IsTracePrefix, due_lines}
 
--- the lines of the text before this one, counted from 1, are those of a run but for the marks of its last move that are
--- still due, and `mark` is the first of these, or `None` if there is none
-pub record IsDueAt (text : List ℕ) (line : ℕ) (mark : Option Mark) : Type 0 where
+-- the lines of the text before this one, counted from 1, are those of a run but for what of its last move is still due, and
+-- `next` is the first line of that, or `None` if there is none
+pub record IsDueAt (text : List ℕ) (line : ℕ) (next : Option Line) : Type 0 where
   pub prefix : List Line
   pub rest : List ℕ
   pub text_is : text ≡ flat_map line_text prefix ++ rest
@@ -22,11 +21,12 @@ pub record IsDueAt (text : List ℕ) (line : ℕ) (mark : Option Mark) : Type 0 
   pub count : ℕ
   pub start : ℕ
   pub moves : List Move
-  pub due : List Mark
+  pub due : Due
   pub lines : IsTracePrefix version count start moves due prefix
-  pub first : mark ≡ slice_get due 0
+  pub first : next ≡ slice_get (due_lines due) 0
 
--- if a line of the input is wrong for its marks, this mark is due there; the input is what was left in the reader, if the
--- reader tells
-abbrev pub TellsDue : Option (List ℕ) → Result Verdict TraceError → Option Mark → Type 0
-TellsDue old result mark = IfSome old (λ input. (line : ℕ) → result ≡ Ok (Invalid line cause.Marks) → IsDueAt input line mark)
+-- if a line of the input is wrong for its sends or its marks, this line is due there; the input is what was left in the
+-- reader, if the reader tells
+abbrev pub TellsDue : Option (List ℕ) → Result Verdict TraceError → Option Line → Type 0
+TellsDue old result next = IfSome old (λ input. (line : ℕ)
+    → (result ≡ Ok (Invalid line cause.Sends)) ⊎ (result ≡ Ok (Invalid line cause.Marks)) → IsDueAt input line next)

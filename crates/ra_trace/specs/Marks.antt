@@ -1,9 +1,9 @@
--- Mark logs: what a lock service wrote down, a line for each request, grant and release, as traces of version 2 have
--- the lines of marks. The verdict on such a text is that the marks are a run of the lock table, or which line is the
+-- Mark logs: what a lock service wrote down, a line for each request, grant, release and withdrawal, as traces of version
+-- 3 have the lines of marks. The verdict on such a text is that the marks are a run of the lock table, or which line is the
 -- first wrong one and why.
 use Rattle.std.specs.Prelude.{◌≡◌, ◌≢◌, ◌⊎◌, ℕ, ◌+◌, List, [], ◌∷◌, ◌++◌, All, Contains, Option, Some, None, Result, Ok, Err, flat_map, length}
 use Rattle.ra_stamp.specs.declared.entry.Mark.{Mark}
-use Rattle.ra_stamp.specs.declared.entry.Mark.TheVariants.{Requested, Entered, Left}
+use Rattle.ra_stamp.specs.declared.entry.Mark.TheVariants.{Requested, Entered, Left, Withdrawn}
 use Rattle.ra_table.specs.Table.{LockTable, TableRun, TableStep}
 use Rattle.ra_table.specs.Laws.{AllowsMark}
 use Rattle.ra_table.specs.Refusals.{IsNodeBusy, IsNotAbove, IsHeld, HasEarlier}
@@ -15,7 +15,7 @@ use Rattle.ra_trace.specs.declared.mark_log.marks_verdict.MarkCause.{MarkCause}
 use Rattle.ra_trace.specs.declared.mark_log.marks_verdict.MarkCause.TheVariants as cause
 use Rattle.ra_trace.specs.declared.mark_log.marks_verdict.MarksVerdict.{MarksVerdict}
 use Rattle.ra_trace.specs.declared.mark_log.marks_verdict.MarksVerdict.TheVariants.{Valid, Invalid}
-use Rattle.ra_trace.specs.declared.line.version.Version.TheVariants.{Two}
+use Rattle.ra_trace.specs.declared.line.version.Version.TheVariants.{Three}
 use Rattle.ra_trace.specs.TraceText.{IsMarkLine}
 
 -- a line for each mark, in order
@@ -24,7 +24,7 @@ marks_text marks = flat_map mark_line marks
 
 -- the fields of each mark are in their ranges, and the marks are a run of the lock table
 pub record IsMarkRun (marks : List Mark) : Type 0 where
-  pub lines : All (IsMarkLine Two) marks
+  pub lines : All (IsMarkLine Three) marks
   pub table : LockTable
   pub run : TableRun marks table
 
@@ -34,10 +34,11 @@ grants_in [] = 0
 grants_in (Requested e ∷ marks) = grants_in marks
 grants_in (Entered e ∷ marks) = grants_in marks + 1
 grants_in (Left e ∷ marks) = grants_in marks
+grants_in (Withdrawn e ∷ marks) = grants_in marks
 
 -- the text begins with the line of a mark, each field in its range, and this is what follows
 abbrev pub BeginsWithMark : List ℕ → Mark → List ℕ → Type 0
-BeginsWithMark text mark rest = IsMarkLine Two mark × (text ≡ mark_line mark ++ rest)
+BeginsWithMark text mark rest = IsMarkLine Three mark × (text ≡ mark_line mark ++ rest)
 
 -- the first cause for which the lock table refuses a mark
 abbrev pub TableRefuses : LockTable → Mark → MarkCause → Type 0
@@ -49,6 +50,7 @@ TableRefuses table (Entered e) why =
     ⊎ ((why ≡ cause.Held) × Contains table.waiting e × IsHeld table e)
     ⊎ ((why ≡ cause.Earlier) × Contains table.waiting e × (IsHeld table e → ⊥) × HasEarlier table e)
 TableRefuses table (Left e) why = (why ≡ cause.NotHeld) × (Contains table.holding e → ⊥)
+TableRefuses table (Withdrawn e) why = (why ≡ cause.NotWaiting) × (Contains table.waiting e → ⊥)
 
 -- what a lock table answers to a mark: that its step was made, or why the table refuses it
 abbrev pub TriesMark : LockTable → Mark → LockTable → Result (Option MarkCause) TraceError → Type 0

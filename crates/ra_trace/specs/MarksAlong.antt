@@ -14,7 +14,7 @@ use Rattle.ra_trace.specs.declared.mark_log.MarkJudgement.{MarkJudgement}
 use Rattle.ra_trace.specs.declared.mark_log.MarkJudgement.TheVariants.{Right, End, Wrong}
 use Rattle.ra_trace.specs.declared.mark_log.marks_verdict.MarkCause.TheVariants as cause
 use Rattle.ra_trace.specs.declared.mark_log.marks_verdict.MarksVerdict.TheVariants.{Valid, Invalid}
-use Rattle.ra_trace.specs.declared.line.version.Version.TheVariants.{Two}
+use Rattle.ra_trace.specs.declared.line.version.Version.TheVariants.{Three}
 use Rattle.ra_trace.specs.TraceText.{IsMarkLine}
 use Rattle.ra_trace.specs.Marks.{marks_text, grants_in, TableRefuses}
 use Rattle.ra_trace.specs.MarksReading.{JudgesMarks, AnswersMarks}
@@ -38,7 +38,7 @@ pub record TakesMark (old : MarkLog) (mark : Mark) (new : MarkLog) : Type 0 wher
 
 -- the log has taken these marks
 pub record IsLogOf (log : MarkLog) (marks : List Mark) : Type 0 where
-  pub lines : All (IsMarkLine Two) marks
+  pub lines : All (IsMarkLine Three) marks
   pub run : TableRun marks log.table
   pub requests_is : log.requests ≡ requests_in marks
   pub grants_is : log.grants ≡ grants_in marks
@@ -69,6 +69,7 @@ JudgedOther (Err fault) = ⊥
 abbrev pub JudgedLine : MarkLog → Line → MarkLog → Result MarkJudgement TraceError → Type 0
 JudgedLine old (line.First version nodes start) new result = JudgedOther result
 JudgedLine old (line.Stepped step) new result = JudgedOther result
+JudgedLine old (line.Sent message) new result = JudgedOther result
 JudgedLine old (line.Marked mark) new result = JudgedMark old mark new result
 JudgedLine old line.Last new result = JudgedOther result
 

@@ -2,7 +2,6 @@
 -- is over.
 use Rattle.std.specs.Prelude.{◌≡◌, ◌≢◌, ◌⊎◌, ℕ, ◌+◌, ◌<◌, ◌≤◌, List, [], ◌∷◌, ◌++◌, All, Option, Result, Ok, Err, flat_map, length}
 use Rattle.std.specs.Io.KnownBytes.{Consumes, IsAtEnd}
-use Rattle.ra_stamp.specs.declared.entry.Mark.{Mark}
 use Rattle.ra_world.specs.Traffic.{Move}
 use Rattle.ra_trace.specs.declared.error.TraceError.{TraceError}
 use Rattle.ra_trace.specs.declared.error.TraceError.TheVariants.{Read, Limit, Memory}
@@ -11,7 +10,7 @@ use Rattle.ra_trace.specs.declared.checker.verdict.Verdict.{Verdict}
 use Rattle.ra_trace.specs.declared.checker.verdict.Verdict.TheVariants.{Valid, Invalid}
 use Rattle.ra_trace.specs.declared.line.version.Version.{Version}
 use Rattle.ra_trace.specs.TraceText.{IsTraceIn, line_text, trace_lines}
-use Rattle.ra_trace.specs.Verdict.{IsTracePrefix, IsWrong, IsVerdict}
+use Rattle.ra_trace.specs.Verdict.{Due, IsTracePrefix, IsWrong, IsVerdict}
 
 -- the lines are those of a whole trace
 abbrev pub IsWhole : List Line → Type 0
@@ -21,7 +20,7 @@ IsWhole prefix =
 
 -- the lines are those of a prefix of a trace: the last one has not come
 abbrev pub HasBegun : List Line → Type 0
-HasBegun prefix = (version : Version) × (n start : ℕ) × (moves : List Move) × (due : List Mark) × IsTracePrefix version n start moves due prefix
+HasBegun prefix = (version : Version) × (n start : ℕ) × (moves : List Move) × (due : Due) × IsTracePrefix version n start moves due prefix
 
 -- no line yet, or the lines of a prefix of a trace, or of a whole one
 abbrev pub AreRight : List Line → Type 0

@@ -12,28 +12,37 @@ use Rattle.ra_text.specs.declared.draft.Draft.{Draft}
 use Rattle.ra_trace.specs.declared.error.WriteTraceError.{WriteTraceError}
 use Rattle.ra_trace.specs.declared.error.WriteTraceError.TheVariants.{Run, Memory, Write}
 use Rattle.ra_trace.specs.declared.line.Line.TheVariants.{First}
-use Rattle.ra_trace.specs.declared.line.version.Version.TheVariants.{Two}
-use Rattle.ra_trace.specs.Ranges.{StepFits, MarkFits}
-use Rattle.ra_trace.specs.TraceText.{line_text, move_lines, IsTrace}
+use Rattle.ra_trace.specs.declared.line.version.Version.{Version}
+use Rattle.ra_trace.specs.declared.line.version.Version.TheVariants.{One, Two, Three, ThreeWithSends}
+use Rattle.ra_trace.specs.Version.{TellsSends}
+use Rattle.ra_trace.specs.Ranges.{StepFits, MarkFits, MessageFits}
+use Rattle.ra_trace.specs.TraceText.{line_text, move_lines, plain_version, IsTraceIn}
 
--- the step of the move fits, and so does each of its marks
-abbrev pub MoveFits : Move → Type 0
-MoveFits move = StepFits move.step × All MarkFits move.marks
+-- a run of these steps can be written in this version, which has them all
+abbrev pub CanWrite : Version → List Step → Type 0
+CanWrite One steps = ⊥
+CanWrite Two steps = plain_version steps ≡ Two
+CanWrite Three steps = Unit {0}
+CanWrite ThreeWithSends steps = Unit {0}
+
+-- the step of the move fits, and so does each of its marks, and of the messages that it sends if the version tells them
+abbrev pub MoveFits : Version → Move → Type 0
+MoveFits version move = StepFits move.step × All MarkFits move.marks × (TellsSends version → All MessageFits move.sends)
 
 -- the text of all lines but the last
-abbrev pub prefix_text : ℕ → ℕ → List Move → List ℕ
-prefix_text n start moves = line_text (First Two n start) ++ flat_map line_text (flat_map move_lines moves)
+abbrev pub prefix_text : Version → ℕ → ℕ → List Move → List ℕ
+prefix_text version n start moves = line_text (First version n start) ++ flat_map line_text (flat_map (move_lines version) moves)
 
--- the world of these nodes has made these steps and no others, and the text is that of its moves without the last line, unless memory
--- ran out for some part of it
-pub record HasTraced (n start : ℕ) (steps : List Step) (world : WorldState) (text : Draft) : Type 0 where
+-- the world of these nodes has made these steps and no others, and the text is that of its moves in this version without the last line,
+-- unless memory ran out for some part of it
+pub record HasTraced (version : Version) (n start : ℕ) (steps : List Step) (world : WorldState) (text : Draft) : Type 0 where
   pub number : IsNodeNumber n
   pub count : world.count ≡ n
   pub start_is : world.start ≡ start
   pub made : map (λ (move : Move). move.step) world.moves ≡ steps
   pub run : IsRun n start world.moves
-  pub says : Says text (prefix_text n start world.moves)
-  pub fit : All MoveFits world.moves
+  pub says : Says text (prefix_text version n start world.moves)
+  pub fit : All (MoveFits version) world.moves
 
 -- the world of these nodes has made no step
 pub record IsOpened (n start : ℕ) (world : WorldState) : Type 0 where
@@ -59,13 +68,13 @@ StopsIn n start steps Memory = Unit {0}
 StopsIn n start steps Write = ⊥
 
 -- the steps `made` were made and written; or no more were made, since one of all `steps` was refused or memory ran out
-abbrev pub Traces : ℕ → ℕ → List Step → List Step → WorldState → Draft → Result (Unit {0}) WriteTraceError → Type 0
-Traces n start made steps world text (Ok done) = HasTraced n start made world text
-Traces n start made steps world text (Err fault) = StopsIn n start steps fault
+abbrev pub Traces : Version → ℕ → ℕ → List Step → List Step → WorldState → Draft → Result (Unit {0}) WriteTraceError → Type 0
+Traces version n start made steps world text (Ok done) = HasTraced version n start made world text
+Traces version n start made steps world text (Err fault) = StopsIn n start steps fault
 
 -- the trace of these steps was written, unless memory ran out for some part of it; or no more were made, since one of them was refused or
 -- memory ran out
-abbrev pub Written : ℕ → ℕ → List Step → Draft → Result (Unit {0}) WriteTraceError → Type 0
-Written n start steps text (Ok done) =
-    (moves : List Move) × (bytes : List ℕ) × (map (λ (move : Move). move.step) moves ≡ steps) × IsTrace n start moves bytes × Says text bytes
-Written n start steps text (Err fault) = StopsIn n start steps fault
+abbrev pub Written : Version → ℕ → ℕ → List Step → Draft → Result (Unit {0}) WriteTraceError → Type 0
+Written version n start steps text (Ok done) =
+    (moves : List Move) × (bytes : List ℕ) × (map (λ (move : Move). move.step) moves ≡ steps) × IsTraceIn version n start moves bytes × Says text bytes
+Written version n start steps text (Err fault) = StopsIn n start steps fault

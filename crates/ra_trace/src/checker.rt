@@ -2,31 +2,37 @@
 pub mod check_text;
 pub mod verdict;
 
-ghost use Rattle.std.specs.Prelude.{◌≡◌, ◌≢◌, ◌<◌, ◌+◌, ◌^◌, List, ◌∷◌, [], false, drop, length, IfOk, IfErr, IfSome, IsNone, IsTrue};
+ghost use Rattle.std.specs.Prelude.{◌≡◌, ◌≢◌, ◌<◌, ◌+◌, ◌^◌, ◌⊎◌, List, ◌∷◌, [], Ok, Some, false, drop, length, slice_get, IfOk, IfErr, IfSome, IsNone, IsTrue};
 ghost use Rattle.ra_stamp.specs.declared.entry.Mark.{Mark};
+ghost use Rattle.ra_stamp.specs.declared.message.Message.{Message};
 ghost use Rattle.ra_trace.specs.declared.checker.verdict.Cause.{Cause};
 ghost use Rattle.ra_trace.specs.declared.line.version.Version.{Version};
 ghost use Rattle.ra_trace.specs.Forms.{IsReadable};
 ghost use Rattle.ra_trace.specs.TraceText.{IsLine};
-ghost use Rattle.ra_trace.specs.Verdict.{IsFirst};
+ghost use Rattle.ra_trace.specs.Verdict.{IsFirst, due_lines, marks_due};
 
 use crate::line::Line;
 use crate::line::version::Version;
 use crate::marked_table::{allows, try_mark};
 use crate::{Cause, TraceError};
-use ra_stamp::{Mark, Marks, equal_is_same};
+use ra_stamp::{Mark, Marks, Message, Messages, equal_is_same};
 use ra_table::Table;
 use ra_world::{MarklessWorld, StepError};
 use std::alloc::Global;
 
-/// What a checker knows after the lines that it took: the version that the first one names, the world after their steps, the lock
-/// table after their marks, and which marks of the last step have not come yet. It keeps nothing of the text.
+/// What a checker knows after the lines that it took: the version that the first one names, the world after their
+/// steps, the lock table after their marks, and which sends and marks of the last step have not come yet. It keeps
+/// nothing of the text.
 #[derive(Drop)]
 pub struct Checker {
     version: Version,
     /// It keeps no marks, since those of the last step are all that is looked at.
     world: MarklessWorld,
     table: Table,
+    /// The messages that the last step sends.
+    sends: Messages,
+    /// How many of them have been told, if the version tells them.
+    told: u64,
     /// The marks of the last step.
     marks: Marks,
     /// How many of them have come.
@@ -45,7 +51,7 @@ pub enum Judgement {
 }
 
 impl Checker {
-    ghost use Rattle.ra_trace.specs.Checking.{due_of, HasSameDue, Judged, IsCheckerOf};
+    ghost use Rattle.ra_trace.specs.Checking.{all_due, due_of, unsent_of, HasSameDue, Judged, IsCheckerOf};
     ghost use Rattle.ra_trace.specs.Reading.{HasBegun};
 
     /// Makes the checker after this line, or answers `None` if it is not a first line of its version.
@@ -81,6 +87,8 @@ impl Checker {
                 version: *version,
                 world,
                 table,
+                sends: Messages::new(alloc),
+                told: 0,
                 marks: Marks::new(alloc),
                 come: 0,
             })),
@@ -88,16 +96,17 @@ impl Checker {
         }
     }
 
-    /// Takes the next line, and answers what it is. It steps the world and the lock table itself, and believes neither steps nor
-    /// marks. After a wrong line, only the mark that is due is promised of the checker, and without memory nothing. The cost is
-    /// that of one step of the world or of the lock table.
+    /// Takes the next line, and answers what it is. It steps the world and the lock table itself, and believes neither
+    /// steps nor marks. After a wrong line, only what is due is promised of the checker, and without memory nothing.
+    /// The cost is that of one step of the world or of the lock table.
     ///
     /// # Errors
     ///
     /// `Memory`: memory ran out.
     pub fn take(&mut self, alloc: Global, line: &Line) -> Result<Judgement, TraceError>
         ensures judged { Judged self.old line.now self.new result }
-        ensures due { IfOk result (λ next. (cause : Cause) → next ≡ Judgement.Wrong cause → HasSameDue self.old self.new) }
+        ensures due { IfOk result
+            (λ next. (cause : Cause) → next ≡ Judgement.Wrong cause → HasSameDue self.old self.new) }
     {
         match line {
             Line::First { .. } => Ok(Judgement::Wrong(Cause::Line)),
@@ -105,12 +114,14 @@ impl Checker {
                 if !self.version.allows_step(step) {
                     return Ok(Judgement::Wrong(Cause::Line));
                 }
-                if self.has_due() {
-                    return Ok(Judgement::Wrong(Cause::Marks));
+                if let Some(cause) = self.early() {
+                    return Ok(Judgement::Wrong(cause));
                 }
                 // Most messages are delivered in the order of sending, so each is looked for at the first place.
                 match self.world.step_near(alloc, step, 0) {
                     Ok(outcome) => {
+                        self.sends = outcome.sends;
+                        self.told = 0;
                         self.marks = outcome.marks;
                         self.come = 0;
                         Ok(Judgement::Right)
@@ -121,14 +132,85 @@ impl Checker {
                     Err(StepError::Node(_)) => Ok(Judgement::Wrong(Cause::Refused)),
                 }
             }
+            Line::Sent(message) => Ok(self.take_sent(message)),
             Line::Marked(mark) => self.take_mark(mark),
-            Line::Last => {
-                if self.has_due() {
-                    return Ok(Judgement::Wrong(Cause::Marks));
-                }
-                Ok(Judgement::Last)
-            }
+            Line::Last => match self.early() {
+                Some(cause) => Ok(Judgement::Wrong(cause)),
+                None => Ok(Judgement::Last),
+            },
         }
+    }
+
+    /// Returns the line that is due next, or `None` if nothing is due.
+    pub fn next_due(&self) -> Option<Line>
+        ensures { result ≡ slice_get (due_lines (all_due self.now)) 0 }
+    {
+        if self.has_unsent() {
+            return match self.sends.at(self.told) {
+                Some(message) => Some(Line::Sent(message)),
+                None => None,
+            };
+        }
+        match self.marks.at(self.come) {
+            Some(mark) => Some(Line::Marked(mark)),
+            None => None,
+        }
+    }
+
+    /// Returns why no step and no last line may come yet, or `None` if nothing is due.
+    fn early(&self) -> Option<Cause>
+        ensures none { IsNone result → all_due self.now ≡ marks_due [] }
+        ensures sends { result ≡ Some Cause.Sends → unsent_of self.now ≢ [] }
+        ensures marks { result ≡ Some Cause.Marks → (all_due self.now ≡ marks_due (due_of self.now))
+            × (due_of self.now ≢ []) }
+        ensures cause { IfSome result (λ cause. (cause ≡ Cause.Sends) ⊎ (cause ≡ Cause.Marks)) }
+    {
+        if self.has_unsent() {
+            return Some(Cause::Sends);
+        }
+        if self.has_due() {
+            return Some(Cause::Marks);
+        }
+        None
+    }
+
+    /// Returns whether a message of the last step has not been told yet.
+    fn has_unsent(&self) -> bool
+        ensures some { IsTrue result → unsent_of self.now ≢ [] }
+        ensures none { result ≡ false → unsent_of self.now ≡ [] }
+    {
+        self.version.has_sends() && self.told < self.sends.len()
+    }
+
+    /// Returns whether this is the next message that the last step sends.
+    fn is_next(&self, message: &Message) -> bool
+        ensures fits { IsTrue result → self.now.told + 1 < 2 ^ 64 }
+        ensures next { IsTrue result
+            → drop self.now.told self.now.sends.items ≡ message.now ∷ drop (self.now.told + 1) self.now.sends.items }
+        ensures other { result ≡ false → (others : List Message)
+            → drop self.now.told self.now.sends.items ≢ message.now ∷ others }
+    {
+        // For the proof: messages that compare equal are the same.
+        equal_is_same();
+        match self.sends.as_slice().get(self.told as usize) {
+            Some(next) => *next == *message,
+            None => false,
+        }
+    }
+
+    /// Takes the line of a message that is sent.
+    fn take_sent(&mut self, message: &Message) -> Judgement
+        ensures judged { Judged self.old (Line.Sent message.now) self.new (Ok result) }
+        ensures due { (cause : Cause) → result ≡ Judgement.Wrong cause → HasSameDue self.old self.new }
+    {
+        if !self.version.allows_sent(message) {
+            return Judgement::Wrong(Cause::Line);
+        }
+        if !self.is_next(message) {
+            return Judgement::Wrong(Cause::Sends);
+        }
+        self.told += 1;
+        Judgement::Right
     }
 
     /// Returns whether a mark of the last step has not come yet.
@@ -155,17 +237,22 @@ impl Checker {
         }
     }
 
-    /// Takes a mark's line. What the lock table says of it comes first, and the table grows only for a mark that is due.
+    /// Takes a mark's line. That a message is still to be told comes first, then what the lock table says of it. The
+    /// table grows only for a mark that is due.
     ///
     /// # Errors
     ///
     /// `Memory`: memory ran out.
     fn take_mark(&mut self, mark: &Mark) -> Result<Judgement, TraceError>
         ensures judged { Judged self.old (Line.Marked mark.now) self.new result }
-        ensures due { IfOk result (λ next. (cause : Cause) → next ≡ Judgement.Wrong cause → HasSameDue self.old self.new) }
+        ensures due { IfOk result
+            (λ next. (cause : Cause) → next ≡ Judgement.Wrong cause → HasSameDue self.old self.new) }
     {
         if !self.version.allows_mark(mark) {
             return Ok(Judgement::Wrong(Cause::Line));
+        }
+        if self.has_unsent() {
+            return Ok(Judgement::Wrong(Cause::Sends));
         }
         if !self.is_due(mark) {
             if allows(&self.table, mark) {

@@ -17,7 +17,8 @@ pub fn each_text_has_one_verdict()
 /// text tells the version, the number of nodes, the number that each resource begins with, each step and its marks.
 pub fn texts_tell_their_steps()
     ensures { (version second : Version) (n m start other : ℕ) (moves others : List Move)
-        → All (IsLine version) (trace_lines version n start moves) → All (IsLine second) (trace_lines second m other others)
+        → All (IsLine version) (trace_lines version n start moves)
+        → All (IsLine second) (trace_lines second m other others)
         → trace_text version n start moves ≡ trace_text second m other others
         → (version ≡ second) × (n ≡ m) × (start ≡ other)
         × (map (λ move. move.step) moves ≡ map (λ move. move.step) others)
@@ -32,7 +33,8 @@ pub fn traces_tell_their_runs()
         → (version ≡ second) × (n ≡ m) × (start ≡ other) × (moves ≡ others) }
 {}
 
-/// No text has two verdicts as a mark log: its marks are a run of the lock table, or one line is the first wrong one, for one cause.
+/// No text has two verdicts as a mark log: its marks are a run of the lock table, or one line is the first wrong one,
+/// for one cause.
 pub fn each_mark_log_has_one_verdict()
     ensures { (text : List ℕ) (a b : MarksVerdict) → IsMarksVerdict text a → IsMarksVerdict text b → a ≡ b }
 {}

@@ -27,4 +27,4 @@ pub use mark_log::marks_verdict::{MarkCause, MarksVerdict};
 pub use mark_log::{check_marks, check_marks_buffered, check_marks_within};
 pub use marked_table::try_mark;
 pub use text_limits::{MAX_LINE, MAX_TEXT};
-pub use trace_writing::{trace_text, write_trace};
+pub use trace_writing::{trace_text, trace_text_with_sends, write_trace, write_trace_with_sends};

@@ -32,9 +32,9 @@ impl LineRoom {
 
 /// A way to read the next line.
 pub trait LineSource<R: Read> {
-    /// Reads the next line into `room`, or `None` if what comes next is not one: a line of another form, one of 128 bytes or more,
-    /// or one that the end of the input cuts off. `taken` becomes the number of bytes that were read. A text may still have `left`
-    /// bytes. It does not allocate, and the cost is linear in what it reads.
+    /// Reads the next line into `room`, or `None` if what comes next is not one: a line of another form, one of 128
+    /// bytes or more, or one that the end of the input cuts off. `taken` becomes the number of bytes that were read. A
+    /// text may still have `left` bytes. It does not allocate, and the cost is linear in what it reads.
     ///
     /// # Errors
     ///
@@ -63,9 +63,10 @@ impl<R: Read> LineSource<R> for ByBytes {
     }
 }
 
-/// As many as a reader has in its buffer. A line that the reader shows whole is read where it is. Otherwise what it shows of the line
-/// is taken, and each byte that follows is read by itself: by the contract of `BufRead`, that nothing is shown does not mean the end, but that a
-/// read gives nothing does. What is taken of the buffer are the bytes of the line.
+/// As many as a reader has in its buffer. A line that the reader shows whole is read where it is. Otherwise what it
+/// shows of the line is taken, and each byte that follows is read by itself: by the contract of `BufRead`, that nothing
+/// is shown does not mean the end, but that a read gives nothing does. What is taken of the buffer are the bytes of the
+/// line.
 pub struct FromBuffer;
 
 impl<B: BufRead> LineSource<B> for FromBuffer {
@@ -81,7 +82,8 @@ impl<B: BufRead> LineSource<B> for FromBuffer {
             Err(_) => return Err(TraceError::Read),
         };
         let most = left.min(MAX_LINE);
-        // Among all that is shown a line feed is found sooner than among so few bytes, since it is looked for in larger steps.
+        // Among all that is shown a line feed is found sooner than among so few bytes, since it is looked for in larger
+        // steps.
         let end = memchr(b'\n', shown).unwrap_or(most);
         if end < most {
             read_line_of(&shown[..end], &mut room.line);

@@ -64,14 +64,14 @@ impl MarkLog {
         match mark {
             Mark::Requested(_) => self.requests += 1,
             Mark::Entered(_) => self.grants += 1,
-            Mark::Left(_) => {}
+            Mark::Left(_) | Mark::Withdrawn(_) => {}
         }
         Ok(MarkJudgement::Right)
     }
 }
 
-/// Reads the next line into the log, and says what it is. `taken` becomes the number of its bytes. The text may still have `left`
-/// bytes.
+/// Reads the next line into the log, and says what it is. `taken` becomes the number of its bytes. The text may still
+/// have `left` bytes.
 ///
 /// # Errors
 ///
@@ -145,15 +145,16 @@ fn check_by<R: Read, S: LineSource<R>>(
     }
 }
 
-/// Checks a log of marks: lines such as `request 1 7 r X 3`, `enter 1 7 r X 3` and `leave 1 7 r X 3`, each with node, client,
-/// name, mode and number as in traces of version 2. Returns that the marks are a run of the lock table, with the counts of
-/// requests and grants, or which line is the first wrong one, and why. The empty text is valid.
+/// Checks a log of marks: lines such as `request 1 7 r X 3`, `enter 1 7 r X 3` and `leave 1 7 r X 3`, each with node,
+/// client, name, mode and number as in traces of version 2. Returns that the marks are a run of the lock table, with
+/// the counts of requests and grants, or which line is the first wrong one, and why. The empty text is valid.
 ///
-/// It goes line by line, and makes each mark in a lock table. The verdict comes at the first wrong line. Nothing is read
-/// after its line feed or its 128th byte, since each line is shorter. It keeps the present line and the lock table, which
-/// grows with the names and with the entries that wait and hold. It reads at most `limit + 1` bytes, each by a read of its
-/// own, so a reader with a buffer is best; a byte past the limit is not looked at. No read that failed is tried again. The
-/// cost is linear in what is read, plus that of the marks, as `Table` says. To read a line takes no memory.
+/// It goes line by line, and makes each mark in a lock table. The verdict comes at the first wrong line. Nothing is
+/// read after its line feed or its 128th byte, since each line is shorter. It keeps the present line and the lock
+/// table, which grows with the names and with the entries that wait and hold. It reads at most `limit + 1` bytes, each
+/// by a read of its own, so a reader with a buffer is best; a byte past the limit is not looked at. No read that failed
+/// is tried again. The cost is linear in what is read, plus that of the marks, as `Table` says. To read a line takes no
+/// memory.
 ///
 /// # Errors
 ///
@@ -184,9 +185,9 @@ pub fn check_marks<R: Read>(alloc: Global, reader: &mut R) -> Result<MarksVerdic
     check_marks_within(alloc, reader, MAX_TEXT)
 }
 
-/// Checks a log of marks as `check_marks` does, and takes from the buffer of the reader exactly what `check_marks` reads. It
-/// looks through the buffer up to a line feed, and takes no byte after it. It is the faster of the two. At the end of the
-/// text, after the reader showed nothing, it is asked once more by a read of one byte.
+/// Checks a log of marks as `check_marks` does, and takes from the buffer of the reader exactly what `check_marks`
+/// reads. It looks through the buffer up to a line feed, and takes no byte after it. It is the faster of the two. At
+/// the end of the text, after the reader showed nothing, it is asked once more by a read of one byte.
 ///
 /// # Errors
 ///

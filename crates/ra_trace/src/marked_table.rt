@@ -1,4 +1,5 @@
-//! The lock table under the marks of a trace or of a log: whether it makes a mark, and the cause for which it refuses one.
+//! The lock table under the marks of a trace or of a log: whether it makes a mark, and the cause for which it refuses
+//! one.
 ghost use Rattle.std.specs.Prelude.{◌≡◌, ◌↔◌, Ok, None, IsTrue};
 ghost use Rattle.ra_stamp.specs.declared.entry.Mark.{Mark};
 ghost use Rattle.ra_table.specs.Laws.{AllowsMark};
@@ -6,7 +7,7 @@ ghost use Rattle.ra_trace.specs.Marks.{TriesMark};
 
 use crate::{MarkCause, TraceError};
 use ra_stamp::Mark;
-use ra_table::{EnterError, LeaveError, RequestError, Table};
+use ra_table::{EnterError, LeaveError, RequestError, Table, WithdrawError};
 
 /// Returns whether a lock table allows a mark, unless memory runs out. It does not allocate.
 pub fn allows(table: &Table, mark: &Mark) -> bool
@@ -16,11 +17,13 @@ pub fn allows(table: &Table, mark: &Mark) -> bool
         Mark::Requested(entry) => table.can_request(entry),
         Mark::Entered(entry) => table.can_enter(entry),
         Mark::Left(entry) => table.holds(entry),
+        Mark::Withdrawn(entry) => table.waits(entry),
     }
 }
 
-/// Makes the step of a mark in a lock table, or returns the first cause for which the table refuses it, and leaves the table
-/// unchanged. The cause is never `MarkCause::Line`. The cost is that of the table's `request`, `enter` or `leave`.
+/// Makes the step of a mark in a lock table, or returns the first cause for which the table refuses it, and leaves the
+/// table unchanged. The cause is never `MarkCause::Line`. The cost is that of the table's `request`, `enter`, `leave`
+/// or `withdraw`.
 ///
 /// # Errors
 ///
@@ -46,6 +49,10 @@ pub fn try_mark(table: &mut Table, mark: &Mark) -> Result<Option<MarkCause>, Tra
         Mark::Left(entry) => match table.leave(entry) {
             Ok(()) => Ok(None),
             Err(LeaveError::NotHeld) => Ok(Some(MarkCause::NotHeld)),
+        },
+        Mark::Withdrawn(entry) => match table.withdraw(entry) {
+            Ok(()) => Ok(None),
+            Err(WithdrawError::NotWaiting) => Ok(Some(MarkCause::NotWaiting)),
         },
     }
 }

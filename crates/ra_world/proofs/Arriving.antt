@@ -3,18 +3,19 @@ use Rattle.std.proofs.Common.{◌≡◌, ℕ, zero, suc, ◌≤◌, Bool, true, 
 use Rattle.std.proofs.lemmas.List.Elements.{All-nil, All-cons, All-same}
 use Rattle.ra_stamp.specs.declared.entry.Entry.{Entry}
 use Rattle.ra_stamp.specs.declared.entry.Mark.{Mark}
-use Rattle.ra_stamp.specs.declared.entry.Mark.TheVariants.{Requested, Entered, Left}
+use Rattle.ra_stamp.specs.declared.entry.Mark.TheVariants.{Requested, Entered, Left, Withdrawn}
 use Rattle.ra_stamp.specs.declared.message.Message.{Message}
 use Rattle.ra_stamp.specs.declared.message.Message.TheVariants.{Request, Reply}
 use Rattle.ra_stamp.specs.declared.mode.Mode.{Mode}
 use Rattle.ra_stamp.specs.Message.{name_of}
 use Rattle.ra_automaton.specs.State.{State}
 use Rattle.ra_automaton.specs.Steps.{RequestStep}
+use Rattle.ra_node.proofs.Endings.{AreEnded, leaves_ended, withdraws_ended}
 use Rattle.ra_node.specs.Resource.{Resource}
-use Rattle.ra_node.specs.Turns.{request_marks, next_entry, EntersBy, AskTurn, LeaveTurn, ReceiveTurn}
+use Rattle.ra_node.specs.Turns.{request_marks, next_entry, EntersBy, AskTurn, Leaves, Withdraws, EndTurn, LeaveTurn, CancelTurn, ReceiveTurn}
 use Rattle.ra_node.specs.Node.{NodeState, resource_at, IsConsistentNode}
-use Rattle.ra_node.specs.Events.{Event, Happening, name_of_event, NodeEvent, NodeEvents}
-use Rattle.ra_node.specs.Events.Event.{Ask as AskedFor, Leave as GivenBack, Receive as Received}
+use Rattle.ra_node.specs.Events.{Event, Happening, IsNamed, name_of_event, NodeEvent, NodeEvents}
+use Rattle.ra_node.specs.Events.Event.{Ask as AskedFor, Leave as GivenBack, Cancel as GivenUp, Receive as Received, Forget as Forgot}
 use Rattle.ra_node.proofs.HandOverStep.{handed_step, handed_marks}
 use Rattle.ra_node.proofs.Lookups.{same_or_apart}
 use Rattle.ra_node.proofs.Updates.{updated_here, received_turn}
@@ -42,12 +43,21 @@ module _ (before after : Resource) (sends : List Message) (marks : List Mark) wh
     | inr queues ↦ omega (arith, ap (λ (x : Resource). x.state.highest) queues.new_is)
   ]
 
-  leave_raises : (client : ℕ) → LeaveTurn before client sends marks after → before.state.highest ≤ after.state.highest
-  leave_raises client turn = elim turn [
-    | inl leaves ↦ omega (arith, ap (λ (x : State). x.highest) leaves.leaves.step.new_is)
+  end_raises : (Ends : Entry → List Message → Resource → Type 0) (mark : Entry → Mark) (ended : AreEnded before Ends) → EndTurn Ends mark before sends marks after → before.state.highest ≤ after.state.highest
+  end_raises Ends mark ended turn = elim turn [
+    | inl nobody ↦ omega (arith, (ended nobody.entry sends after nobody.ends).step.highest_is)
     | inr hands ↦
-        let step = handed_step before client sends marks after hands in
-        omega (arith, ap (λ (x : State). x.highest) step.leaves.new_is, request_raises step.between after.state hands.next.mode step.requests hands.asks.entered step.asks)
+        let step = handed_step Ends mark before ended sends marks after hands in
+        omega (arith, step.ends.highest_is, request_raises step.between after.state hands.next.mode step.requests hands.asks.entered step.asks)
+  ]
+
+  leave_raises : (client : ℕ) → LeaveTurn before client sends marks after → before.state.highest ≤ after.state.highest
+  leave_raises client turn = end_raises (Leaves before client) Left (leaves_ended before client) turn
+
+  cancel_raises : (client : ℕ) → CancelTurn before client sends marks after → before.state.highest ≤ after.state.highest
+  cancel_raises client turn = elim turn [
+    | inl goes ↦ omega (arith, ap (λ (x : Resource). x.state.highest) goes.new_is)
+    | inr ends ↦ end_raises (Withdraws before client) Withdrawn (withdraws_ended before client) ends
   ]
 
   receive_raises : (m : Message) → ReceiveTurn before m sends marks after → before.state.highest ≤ after.state.highest
@@ -71,24 +81,36 @@ request_met before after sends marks from to name mode seq turn = elim turn.step
   | inr replies ↦ omega (arith, ap (λ (x : State). x.highest) replies.new_is)
 ]
 
--- the name's own resource
-raises_here : (old new : NodeState) (event : Event) (sends : List Message) (marks : List Mark) → NodeEvent old event sends marks new
+-- the resource of a name that an event is about
+raises_here : (old new : NodeState) (event : Event) (sends : List Message) (marks : List Mark) → NodeEvent old event sends marks new → IsNamed event
     → (resource_at old (name_of_event event)).state.highest ≤ (resource_at new (name_of_event event)).state.highest
-raises_here old new (AskedFor client name mode) sends marks event =
+raises_here old new (AskedFor client name mode) sends marks event named =
     subst (λ (r : Resource). (resource_at old name).state.highest ≤ r.state.highest) (sym (updated_here old new name event.resource (inr event.new_is)))
     (ask_raises (resource_at old name) event.resource sends marks client mode event.turn)
-raises_here old new (GivenBack client name) sends marks event =
+raises_here old new (GivenBack client name) sends marks event named =
     subst (λ (r : Resource). (resource_at old name).state.highest ≤ r.state.highest) (sym (updated_here old new name event.resource (inr event.new_is)))
     (leave_raises (resource_at old name) event.resource sends marks client event.turn)
-raises_here old new (Received message) sends marks event =
+raises_here old new (GivenUp client name) sends marks event named =
+    subst (λ (r : Resource). (resource_at old name).state.highest ≤ r.state.highest) (sym (updated_here old new name event.resource (inr event.new_is)))
+    (cancel_raises (resource_at old name) event.resource sends marks client event.turn)
+raises_here old new (Received message) sends marks event named =
     receive_raises (resource_at old (name_of message)) (resource_at new (name_of message)) sends marks message (received_turn old new message sends marks event)
+raises_here old new Forgot sends marks event named = absurd named
+
+named_raises : (old new : NodeState) (event : Event) (sends : List Message) (marks : List Mark) → NodeEvent old event sends marks new → IsNamed event → (name : List ℕ)
+    → (resource_at old name).state.highest ≤ (resource_at new name).state.highest
+named_raises old new event sends marks happened named name = elim (same_or_apart name (name_of_event event)) [
+  | inl same ↦ subst (λ (r : List ℕ). (resource_at old r).state.highest ≤ (resource_at new r).state.highest) (sym same) (raises_here old new event sends marks happened named)
+  | inr apart ↦ omega (arith, ap (λ (r : Resource). r.state.highest) (other_resource old new event sends marks name happened named apart))
+]
 
 pub event_raises : (old new : NodeState) (event : Event) (sends : List Message) (marks : List Mark) → NodeEvent old event sends marks new → (name : List ℕ)
     → (resource_at old name).state.highest ≤ (resource_at new name).state.highest
-event_raises old new event sends marks happened name = elim (same_or_apart name (name_of_event event)) [
-  | inl same ↦ subst (λ (r : List ℕ). (resource_at old r).state.highest ≤ (resource_at new r).state.highest) (sym same) (raises_here old new event sends marks happened)
-  | inr apart ↦ omega (arith, ap (λ (r : Resource). r.state.highest) (other_resource old new event sends marks name happened apart))
-]
+event_raises old new (AskedFor client name mode) sends marks happened q = named_raises old new (AskedFor client name mode) sends marks happened tt q
+event_raises old new (GivenBack client name) sends marks happened q = named_raises old new (GivenBack client name) sends marks happened tt q
+event_raises old new (GivenUp client name) sends marks happened q = named_raises old new (GivenUp client name) sends marks happened tt q
+event_raises old new (Received message) sends marks happened q = named_raises old new (Received message) sends marks happened tt q
+event_raises old new Forgot sends marks happened q = omega (arith, ap (λ (r : Resource). r.state.highest) (happened.resources q))
 
 pub events_raise : (hs : List Happening) (old new : NodeState) → NodeEvents old hs new → (name : List ℕ) → (resource_at old name).state.highest ≤ (resource_at new name).state.highest
 events_raise [] old new same name = omega (arith, ap (λ (x : NodeState). (resource_at x name).state.highest) same)
@@ -128,13 +150,22 @@ module _ (At : ℕ → Type 0) (e : Entry) where
       | inr queues ↦ All-same (IsAbove At e) marks [] queues.marks_are (All-nil (IsAbove At e))
     ]
 
-    leave_above : (client : ℕ) → LeaveTurn before client sends marks after → All (IsAbove At e) marks
-    leave_above client turn = elim turn [
-      | inl leaves ↦ All-same (IsAbove At e) marks (Left leaves.entry ∷ []) leaves.marks_are (All-cons (IsAbove At e) (Left leaves.entry) [] tt (All-nil (IsAbove At e)))
+    end_above : (Ends : Entry → List Message → Resource → Type 0) (mark : Entry → Mark) (ended : AreEnded before Ends) → ((x : Entry) → IsAbove At e (mark x)) → EndTurn Ends mark before sends marks after → All (IsAbove At e) marks
+    end_above Ends mark ended none turn = elim turn [
+      | inl nobody ↦ All-same (IsAbove At e) marks (mark nobody.entry ∷ []) nobody.marks_are (All-cons (IsAbove At e) (mark nobody.entry) [] (none nobody.entry) (All-nil (IsAbove At e)))
       | inr hands ↦
           let asked = request_marks hands.asks.entered (next_entry before hands.next.client hands.next.mode) in
-          All-same (IsAbove At e) marks (Left hands.entry ∷ asked) (handed_marks before client sends marks after hands)
-          (All-cons (IsAbove At e) (Left hands.entry) asked tt (next_above before hands.next.client hands.next.mode hands.asks.entered low))
+          All-same (IsAbove At e) marks (mark hands.entry ∷ asked) (handed_marks Ends mark before ended sends marks after hands)
+          (All-cons (IsAbove At e) (mark hands.entry) asked (none hands.entry) (next_above before hands.next.client hands.next.mode hands.asks.entered low))
+    ]
+
+    leave_above : (client : ℕ) → LeaveTurn before client sends marks after → All (IsAbove At e) marks
+    leave_above client turn = end_above (Leaves before client) Left (leaves_ended before client) (λ x. tt) turn
+
+    cancel_above : (client : ℕ) → CancelTurn before client sends marks after → All (IsAbove At e) marks
+    cancel_above client turn = elim turn [
+      | inl goes ↦ All-same (IsAbove At e) marks [] goes.marks_are (All-nil (IsAbove At e))
+      | inr ends ↦ end_above (Withdraws before client) Withdrawn (withdraws_ended before client) (λ x. tt) ends
     ]
 
     receive_above : (m : Message) → ReceiveTurn before m sends marks after → All (IsAbove At e) marks
@@ -154,4 +185,6 @@ module _ (At : ℕ → Type 0) (e : Entry) where
     pub event_above : (event : Event) → NodeEvent old event sends marks new → All (IsAbove At e) marks
     event_above (AskedFor client name mode) asked = ask_above (resource_at old name) asked.resource sends marks (low name) client mode asked.turn
     event_above (GivenBack client name) left = leave_above (resource_at old name) left.resource sends marks (low name) client left.turn
+    event_above (GivenUp client name) cancelled = cancel_above (resource_at old name) cancelled.resource sends marks (low name) client cancelled.turn
+    event_above Forgot forgot = All-same (IsAbove At e) marks [] forgot.marks_are (All-nil (IsAbove At e))
     event_above (Received message) received = receive_above (resource_at old (name_of message)) received.resource sends marks (low (name_of message)) message received.turn

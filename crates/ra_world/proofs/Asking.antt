@@ -1,5 +1,5 @@
--- A request, and a leave, keep the protocol.
-use Rattle.std.proofs.Common.{◌≡◌, ◌≢◌, ℕ, ◌+◌, ◌≤◌, Bool, List, [], ◌∷◌, ◌++◌, map, Option, Some, None, sym, ap, ◌∙◌, subst, inl, inr}
+-- A request, a leave, and a rise of numbers keep the protocol. A withdrawal does not.
+use Rattle.std.proofs.Common.{◌≡◌, ◌≢◌, ℕ, ◌+◌, ◌≤◌, Bool, List, [], ◌∷◌, ◌++◌, map, Option, Some, None, refl, sym, ap, ◌∙◌, subst, inl, inr}
 use Rattle.std.specs.Prelude.{IsTrue}
 use Rattle.std.specs.Ordering.{nat_cmp}
 use Rattle.std.specs.FinSet as set
@@ -14,8 +14,9 @@ use Rattle.ra_automaton.specs.declared.phase.Phase.TheVariants.{Idle, Waiting, I
 use Rattle.ra_automaton.specs.State.{State}
 use Rattle.ra_automaton.specs.Steps.{others_of, Awaits, RequestStep, LeaveStep}
 use Rattle.ra_world.proofs.Dialogs.{belongs, between, reply_for, requests_to_one, requests_of_others, replies_to_one, replies_of_others}
-use Rattle.ra_world.proofs.Protocol.{IsNode, LetsPass, IsSilent, Dialog, IsPlaced, Protocol, Changes, changed}
-use Rattle.ra_world.proofs.AutomatonSteps.{idle_has_none, requests_are, all_asked, passes_after_request, replies_are, idle_after_leave, none_deferred, passes_after_leave}
+use Rattle.ra_world.proofs.Protocol.{IsNode, HasOwn, LetsPass, IsSilent, Dialog, IsPlaced, Protocol, Changes, changed}
+use Rattle.ra_world.proofs.AutomatonSteps.{idle_has_none, requests_are, all_asked, passes_after_request, replies_are, idle_after_end, none_deferred, passes_after_end, higher_state, passes_higher}
+use Rattle.ra_automaton.proofs.Ending.{EndStep, leave_ends}
 
 -- ---- Messages that are put under way
 
@@ -112,14 +113,17 @@ module _ {Lossy : Type 0} (n : ℕ) (r : List ℕ) (s s' : ℕ → State) (bag :
     abbrev held : IsPlaced n r p (s p)
     held = old.each p within
 
+    ends : EndStep (s p) sends new
+    ends = leave_ends (s p) sends new step
+
     sent : sends ≡ map (λ e. Reply p e.0 r e.1) (finmap.entries (s p).deferred)
-    sent = replies_are n r p (s p) new held sends step
+    sent = replies_are n r p (s p) new held sends ends
 
     none_left : (x : ℕ) → finmap.get new.deferred x ≡ None
-    none_left = none_deferred n r p (s p) new held sends step
+    none_left = none_deferred n r p (s p) new held sends ends
 
     passes_now : (x k : ℕ) (m : Mode) → k ≤ (s p).highest → LetsPass new x k m
-    passes_now = passes_after_leave n r p (s p) new held sends step
+    passes_now = passes_after_end n r p (s p) new held sends ends
 
     leave_mine : (x : ℕ) → IsNode n x → x ≢ p → Dialog Lossy r p x (s p) (s x) (between r p x bag) → Dialog Lossy r p x new (s x) (between r p x (bag ++ sends))
     leave_mine x at apart d =
@@ -167,6 +171,47 @@ module _ {Lossy : Type 0} (n : ℕ) (r : List ℕ) (s s' : ℕ → State) (bag :
     leave_kept =
         changed n r s s' bag (bag ++ sends) p new old changes placed leave_mine leave_theirs
         (λ i j i_apart j_apart. none_between r i j bag sends (ap (between r i j) sent ∙ replies_of_others r r i j p (finmap.entries (s p).deferred) (λ e _. j_apart e)))
-        (λ x k m at apart own free. absurd (idle_has_none new.phase k m (idle_after_leave n r p (s p) new held sends step) own))
+        (λ x k m at apart own free. absurd (idle_has_none new.phase k m (idle_after_end n r p (s p) new held sends ends) own))
         (λ x k m pass. passes_now x k m pass.reached)
+        within
+
+  -- ---- The highest number rises, and nothing else changes
+
+  module _ (number : ℕ) (is : new ≡ higher_state (s p) number) (placed : IsPlaced n r p new) where
+    abbrev high : State
+    high = higher_state (s p) number
+
+    -- as the asker
+    rise_mine : (x : ℕ) → Dialog Lossy r p x (s p) (s x) (between r p x bag) → Dialog Lossy r p x new (s x) (between r p x bag)
+    rise_mine x d = subst (λ (t : State). Dialog Lossy r p x t (s x) (between r p x bag)) (sym is) (elim d [
+      | inl silent ↦ inl (record { none = silent.none; not_deferred = silent.not_deferred; unheard = silent.unheard })
+      | inr y ↦ elim y [
+        | inl a ↦ inr (inl (record { seq = a.seq; mode = a.mode; awaits = record { waits = a.awaits.waits; awaited = a.awaits.awaited }; asks = a.asks; not_deferred = a.not_deferred }))
+        | inr z ↦ elim z [
+          | inl a ↦ inr (inr (inl (record { seq = a.seq; mode = a.mode; awaits = record { waits = a.awaits.waits; awaited = a.awaits.awaited }; none = a.none; deferred = a.deferred; own_first = a.own_first })))
+          | inr a ↦ inr (inr (inr (record { seq = a.seq; mode = a.mode; awaits = record { waits = a.awaits.waits; awaited = a.awaits.awaited }; answers = a.answers; not_deferred = a.not_deferred; passes = a.passes })))
+        ]
+      ]
+    ])
+
+    -- as the one that answers
+    rise_theirs : (x : ℕ) → Dialog Lossy r x p (s x) (s p) (between r x p bag) → Dialog Lossy r x p (s x) new (between r x p bag)
+    rise_theirs x d = subst (λ (t : State). Dialog Lossy r x p (s x) t (between r x p bag)) (sym is) (elim d [
+      | inl silent ↦ inl (record { none = silent.none; not_deferred = silent.not_deferred; unheard = silent.unheard })
+      | inr y ↦ elim y [
+        | inl a ↦ inr (inl (record { seq = a.seq; mode = a.mode; awaits = a.awaits; asks = a.asks; not_deferred = a.not_deferred }))
+        | inr z ↦ elim z [
+          | inl a ↦ inr (inr (inl (record { seq = a.seq; mode = a.mode; awaits = a.awaits; none = a.none; deferred = a.deferred; own_first = a.own_first })))
+          | inr a ↦ inr (inr (inr (record { seq = a.seq; mode = a.mode; awaits = a.awaits; answers = a.answers; not_deferred = a.not_deferred; passes = passes_higher (s p) number x a.seq a.mode a.passes })))
+        ]
+      ]
+    ])
+
+    pub rise_kept : Protocol Lossy n r s' bag
+    rise_kept =
+        changed n r s s' bag bag p new old changes placed (λ x _ _. rise_mine x) (λ x _ _. rise_theirs x)
+        (λ i j i_apart j_apart. refl)
+        (λ x k m at apart own free.
+        old.passed p x k m within at (λ e. apart (sym e)) (subst (λ (t : State). HasOwn t.phase k m) is own) (λ awaited. free (subst (λ (t : State). IsTrue (set.contains t.awaited x)) (sym is) awaited)))
+        (λ x k m pass. subst (λ (t : State). LetsPass t x k m) (sym is) (passes_higher (s p) number x k m pass))
         within

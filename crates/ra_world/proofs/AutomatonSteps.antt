@@ -12,9 +12,10 @@ use Rattle.ra_stamp.specs.Stamp.{IsEarlier}
 use Rattle.ra_automaton.specs.declared.phase.Phase.{Phase}
 use Rattle.ra_automaton.specs.declared.phase.Phase.TheVariants.{Idle, Waiting}
 use Rattle.ra_automaton.specs.State.{State}
-use Rattle.ra_automaton.specs.Steps.{others_of, later_of, Awaits, OwnGoesFirst, RequestStep, LeaveStep, Defers, RepliesAtOnce, Enters, WaitsOn}
+use Rattle.ra_automaton.specs.Steps.{others_of, later_of, Awaits, OwnGoesFirst, RequestStep, Defers, RepliesAtOnce, Enters, WaitsOn}
 use Rattle.ra_automaton.proofs.Apart.{tied, untied}
 use Rattle.ra_automaton.proofs.Consistent.{other_is_asked}
+use Rattle.ra_automaton.proofs.Ending.{EndStep}
 use Rattle.ra_world.proofs.Members.{remains, removed, nobody}
 use Rattle.ra_world.proofs.Protocol.{IsNode, HasOwn, LetsPass, IsPlaced}
 
@@ -74,21 +75,29 @@ module _ (n : ℕ) (r : List ℕ) (p : ℕ) (old new : State) (placed : IsPlaced
     | inr alone ↦ omega (arith, ap (λ (t : State). t.highest) alone.new_is)
   ]
 
--- ---- A node leaves
+-- ---- The request of a node ends, by a leave or a withdrawal
 
-module _ (n : ℕ) (r : List ℕ) (p : ℕ) (old new : State) (placed : IsPlaced n r p old) (sends : List Message) (step : LeaveStep old sends new) where
+module _ (n : ℕ) (r : List ℕ) (p : ℕ) (old new : State) (placed : IsPlaced n r p old) (sends : List Message) (step : EndStep old sends new) where
   pub replies_are : sends ≡ map (λ e. Reply p e.0 r e.1) (finmap.entries old.deferred)
   replies_are = step.sends_are ∙ (λ i. map (λ e. Reply (placed.me_is i) e.0 (placed.name_is i) e.1) (finmap.entries old.deferred))
 
-  pub idle_after_leave : new.phase ≡ Idle
-  idle_after_leave = ap (λ (t : State). t.phase) step.new_is
+  pub idle_after_end : new.phase ≡ Idle
+  idle_after_end = step.idle
 
   pub none_deferred : (x : ℕ) → finmap.get new.deferred x ≡ None
-  none_deferred x = ap (λ (t : State). finmap.get t.deferred x) step.new_is ∙ finmap.get-empty nat_cmp x
+  none_deferred x = ap (λ (d : finmap.FinMap nat_cmp ℕ). finmap.get d x) step.none_deferred ∙ finmap.get-empty nat_cmp x
 
-  pub passes_after_leave : (x k : ℕ) (m : Mode) → k ≤ old.highest → LetsPass new x k m
-  passes_after_leave x k m low =
-      record { reached = subst (λ (t : State). k ≤ t.highest) (sym step.new_is) low; not_first = idle_goes_last new.phase new.me x k m idle_after_leave }
+  pub passes_after_end : (x k : ℕ) (m : Mode) → k ≤ old.highest → LetsPass new x k m
+  passes_after_end x k m low =
+      record { reached = omega (arith, low, step.highest_is); not_first = idle_goes_last new.phase new.me x k m step.idle }
+
+-- ---- The highest number of a node rises, when it forgets names
+
+abbrev pub higher_state : State → ℕ → State
+higher_state s number = record s { highest = max s.highest number }
+
+pub passes_higher : (s : State) (number x k : ℕ) (m : Mode) → LetsPass s x k m → LetsPass (higher_state s number) x k m
+passes_higher s number x k m pass = record { reached = omega (arith, pass.reached); not_first = pass.not_first }
 
 -- ---- A REQUEST comes
 

@@ -16,11 +16,14 @@ use Rattle.ra_stamp.specs.declared.message.Message.TheVariants.{Request, Reply}
 use Rattle.ra_stamp.specs.declared.entry.Entry.{Entry}
 use Rattle.ra_stamp.specs.declared.entry.Mark.{Mark}
 use Rattle.ra_automaton.specs.State.{State}
-use Rattle.ra_automaton.specs.Steps.{others_of, later_of, RequestStep, LeaveStep}
+use Rattle.ra_automaton.specs.Steps.{others_of, later_of, RequestStep}
+use Rattle.ra_automaton.proofs.Ending.{EndStep}
+use Rattle.ra_node.proofs.Endings.{AreEnded, leaves_ended, withdraws_ended}
+use Rattle.ra_stamp.specs.declared.entry.Mark.TheVariants.{Left, Withdrawn}
 use Rattle.ra_bag.specs.Bag.{TakesFirst}
 use Rattle.ra_node.specs.Resource.{Resource}
 use Rattle.ra_node.proofs.HandOverStep.{handed_step, handed_marks}
-use Rattle.ra_node.specs.Turns.{request_marks, next_entry, EntersBy, AskTurn, LeaveTurn, ReceiveTurn}
+use Rattle.ra_node.specs.Turns.{request_marks, next_entry, EntersBy, AskTurn, Leaves, Withdraws, EndTurn, LeaveTurn, CancelTurn, ReceiveTurn}
 use Rattle.ra_world.specs.Quiet.{requests_in}
 use Rattle.ra_automaton.proofs.Apart.{cases_same}
 use Rattle.ra_world.proofs.Protocol.{IsNode}
@@ -118,12 +121,12 @@ requests_sent n s mode sends entered new within nodes_is step =
       elim step.begins [ inl asks ↦ ap (λ (t : State). t.deferred) asks.new_is | inr alone ↦ ap (λ (t : State). t.deferred) alone.new_is ],
     )
 
-replies_sent : (s : State) (sends : List Message) (new : State) → LeaveStep s sends new → (length sends ≡ finmap.len s.deferred) × (asking sends ≡ 0) × (finmap.len new.deferred ≡ 0)
+replies_sent : (s : State) (sends : List Message) (new : State) → EndStep s sends new → (length sends ≡ finmap.len s.deferred) × (asking sends ≡ 0) × (finmap.len new.deferred ≡ 0)
 replies_sent s sends new step =
     let es = finmap.entries s.deferred in (
       ap length step.sends_are ∙ length-map es (λ e. Reply s.me e.0 s.name e.1) ∙ sym (finmap.len-entries s.deferred),
       ap asking step.sends_are ∙ asking_replies s.me s.name es,
-      ap (λ (t : State). finmap.len t.deferred) step.new_is ∙ finmap.len-empty nat_cmp ℕ,
+      ap finmap.len step.none_deferred ∙ finmap.len-empty nat_cmp ℕ,
     )
 
 -- a REQUEST comes from a node that is not deferred
@@ -141,21 +144,33 @@ module _ (n each : ℕ) (each_is : each ≡ 2 * (n - 1)) (before after : Resourc
         omega (arith, ap length queues.sends_are, ap asking queues.sends_are, ap (λ (x : Resource). finmap.len x.state.deferred) queues.new_is, ap (λ (ms : List Mark). each * requests_in ms) queues.marks_are)
   ]
 
-  pub leave_balanced : (client : ℕ) (bag : List Message) → LeaveTurn before client sends marks after → IsBalanced each (asking bag) (asking bag) sends before after marks
-  leave_balanced client bag turn = elim turn [
-    | inl leaves ↦
-        let sent = replies_sent before.state sends after.state leaves.leaves.step in
-        omega (arith, sent.0, sent.1, sent.2, ap (λ (ms : List Mark). each * requests_in ms) leaves.marks_are)
+  -- the mark of an end is no request
+  end_balanced : (Ends : Entry → List Message → Resource → Type 0) (mark : Entry → Mark) (ended : AreEnded before Ends) → ((e : Entry) (ms : List Mark) → requests_in (mark e ∷ ms) ≡ requests_in ms) → (bag : List Message) → EndTurn Ends mark before sends marks after → IsBalanced each (asking bag) (asking bag) sends before after marks
+  end_balanced Ends mark ended none bag turn = elim turn [
+    | inl nobody ↦
+        let sent = replies_sent before.state sends after.state (ended nobody.entry sends after nobody.ends).step in
+        let unasked : requests_in marks ≡ 0 = ap requests_in nobody.marks_are ∙ none nobody.entry [] in
+        omega (arith, sent.0, sent.1, sent.2, ap (λ k. each * k) unasked)
     | inr hands ↦
-        let step = handed_step before client sends marks after hands in
+        let step = handed_step Ends mark before ended sends marks after hands in
         let mid = step.between in
-        let replied = replies_sent before.state step.replies mid step.leaves in
-        let me_same : mid.me ≡ before.state.me = ap (λ (t : State). t.me) step.leaves.new_is in
-        let sent = requests_sent n mid hands.next.mode step.requests hands.asks.entered after.state (subst (λ (k : ℕ). IsNode n k) (sym me_same) within) (ap (λ (t : State). t.nodes) step.leaves.new_is ∙ nodes_is) step.asks in
-        let one : requests_in marks ≡ 1 = ap requests_in (handed_marks before client sends marks after hands) ∙ marks_request hands.asks.entered (next_entry before hands.next.client hands.next.mode) in
+        let replied = replies_sent before.state step.replies mid step.ends in
+        let sent = requests_sent n mid hands.next.mode step.requests hands.asks.entered after.state (subst (λ (k : ℕ). IsNode n k) (sym step.ends.me_is) within) (step.ends.nodes_is ∙ nodes_is) step.asks in
+        let e = next_entry before hands.next.client hands.next.mode in
+        let one : requests_in marks ≡ 1 = ap requests_in (handed_marks Ends mark before ended sends marks after hands) ∙ none hands.entry (request_marks hands.asks.entered e) ∙ marks_request hands.asks.entered e in
         let long = ap length step.sends_are ∙ length-append step.replies step.requests in
         let many = ap asking step.sends_are ∙ asking_both step.replies step.requests in
         omega (arith, replied.0, replied.1, replied.2, sent.0, sent.1, ap finmap.len sent.2, long, many, each_is, ap (λ k. each * k) one)
+  ]
+
+  pub leave_balanced : (client : ℕ) (bag : List Message) → LeaveTurn before client sends marks after → IsBalanced each (asking bag) (asking bag) sends before after marks
+  leave_balanced client bag turn = end_balanced (Leaves before client) Left (leaves_ended before client) (λ e ms. refl) bag turn
+
+  pub cancel_balanced : (client : ℕ) (bag : List Message) → CancelTurn before client sends marks after → IsBalanced each (asking bag) (asking bag) sends before after marks
+  cancel_balanced client bag turn = elim turn [
+    | inl goes ↦
+        omega (arith, ap length goes.sends_are, ap asking goes.sends_are, ap (λ (x : Resource). finmap.len x.state.deferred) goes.new_is, ap (λ (ms : List Mark). each * requests_in ms) goes.marks_are)
+    | inr ends ↦ end_balanced (Withdraws before client) Withdrawn (withdraws_ended before client) (λ e ms. refl) bag ends
   ]
 
   no_requests : (entered : Bool) → EntersBy entered after marks → requests_in marks ≡ 0

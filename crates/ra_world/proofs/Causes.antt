@@ -5,13 +5,13 @@ use Rattle.ra_stamp.specs.declared.message.Message.{Message}
 use Rattle.ra_stamp.specs.declared.mode.Mode.{Mode}
 use Rattle.ra_stamp.specs.NodeId.{IsNodeNumber}
 use Rattle.ra_automaton.specs.Steps.{greatest_number}
-use Rattle.ra_node.specs.Resource.{Holds, IsBusy}
+use Rattle.ra_node.specs.Resource.{Holds, IsBusy, IsKeptWaiting}
 use Rattle.ra_node.specs.Turns.{MayAsk}
 use Rattle.ra_node.specs.Node.{NodeState, opening_node, resource_at}
 use Rattle.ra_node.specs.Events.{Happening, NodeEvents}
 use Rattle.ra_world.specs.declared.step.Step.{Step}
-use Rattle.ra_world.specs.declared.step.Step.TheVariants.{Ask, Leave, Deliver, Lose, Repeat}
-use Rattle.ra_world.specs.declared.error.NodeRefusal.TheVariants.{Busy, Exhausted, NotHeld}
+use Rattle.ra_world.specs.declared.step.Step.TheVariants.{Ask, Leave, Cancel, Deliver, Lose, Repeat, Forget}
+use Rattle.ra_world.specs.declared.error.NodeRefusal.TheVariants.{Busy, Exhausted, NotHeld, NotWaiting}
 use Rattle.ra_world.specs.declared.error.StepError.{StepError}
 use Rattle.ra_world.specs.declared.error.StepError.TheVariants.{NoNode, NotUnderWay, Node, Memory}
 use Rattle.ra_world.specs.Traffic.{Move, IsUnderWay}
@@ -29,6 +29,13 @@ module _
     → (node client : ℕ) (name : List ℕ)
     → GoesOn n start moves (Leave node client name)
     ↔ (((1 ≤ node) × (node ≤ n)) × ((entry : Entry) × Holds (resource_at (nodes node) name) client entry)))
+    (may_cancel : (n start : ℕ) (moves : List Move) (nodes : ℕ → NodeState)
+    → IsNodeNumber n → IsRun n start moves → EndsWith n start moves nodes
+    → (node client : ℕ) (name : List ℕ)
+    → GoesOn n start moves (Cancel node client name)
+    ↔ (((1 ≤ node) × (node ≤ n)) × IsKeptWaiting (resource_at (nodes node) name) client))
+    (may_forget : (n start : ℕ) (moves : List Move) → IsNodeNumber n → IsRun n start moves
+    → (node : ℕ) → GoesOn n start moves (Forget node) ↔ ((1 ≤ node) × (node ≤ n)))
     (may_deliver : (n start : ℕ) (moves : List Move) → IsNodeNumber n → IsRun n start moves
     → (message : Message) → GoesOn n start moves (Deliver message) ↔ IsUnderWay moves message)
     (may_lose : (n start : ℕ) (moves : List Move) → IsNodeNumber n → IsRun n start moves
@@ -47,6 +54,7 @@ module _
         let may = (may_ask n start moves why.nodes count run why.ends node client name mode).0 on in
         omega (arith, may.1.number_left, why.holds.1)
     no_step n start moves (Ask node client name mode) (Node NotHeld) count run why on = absurd why
+    no_step n start moves (Ask node client name mode) (Node NotWaiting) count run why on = absurd why
     no_step n start moves (Ask node client name mode) NotUnderWay count run why on = absurd why
     no_step n start moves (Ask node client name mode) Memory count run why on = absurd why
     no_step n start moves (Leave node client name) NoNode count run why on =
@@ -57,8 +65,23 @@ module _
     no_step n start moves (Leave node client name) (Node NotHeld) count run why on =
         let may = (may_leave n start moves why.nodes count run why.ends node client name).0 on in
         why.holds may.1.0 may.1.1
+    no_step n start moves (Leave node client name) (Node NotWaiting) count run why on = absurd why
     no_step n start moves (Leave node client name) NotUnderWay count run why on = absurd why
     no_step n start moves (Leave node client name) Memory count run why on = absurd why
+    no_step n start moves (Cancel node client name) NoNode count run why on =
+        let may = (may_cancel n start moves run.ends.0 count run run.ends.1 node client name).0 on in
+        omega (arith, why, may.0.1)
+    no_step n start moves (Cancel node client name) (Node Busy) count run why on = absurd why
+    no_step n start moves (Cancel node client name) (Node Exhausted) count run why on = absurd why
+    no_step n start moves (Cancel node client name) (Node NotHeld) count run why on = absurd why
+    no_step n start moves (Cancel node client name) (Node NotWaiting) count run why on =
+        why.holds ((may_cancel n start moves why.nodes count run why.ends node client name).0 on).1
+    no_step n start moves (Cancel node client name) NotUnderWay count run why on = absurd why
+    no_step n start moves (Cancel node client name) Memory count run why on = absurd why
+    no_step n start moves (Forget node) NoNode count run why on = omega (arith, why, ((may_forget n start moves count run node).0 on).1)
+    no_step n start moves (Forget node) (Node which) count run why on = absurd why
+    no_step n start moves (Forget node) NotUnderWay count run why on = absurd why
+    no_step n start moves (Forget node) Memory count run why on = absurd why
     no_step n start moves (Deliver message) NoNode count run why on = absurd why
     no_step n start moves (Deliver message) (Node which) count run why on = absurd why
     no_step n start moves (Deliver message) NotUnderWay count run why on = why ((may_deliver n start moves count run message).0 on)
@@ -96,15 +119,19 @@ module _
     one_ask n start moves node client name mode (Node Exhausted) (Node Busy) p q =
         absurd (both n start moves node (λ s. IsBusy (resource_at s name) client) (λ s. (IsBusy (resource_at s name) client → ⊥) × ((resource_at s name).state.highest ≡ greatest_number)) (λ s busy free. free.0 busy) q p)
     one_ask n start moves node client name mode (Node NotHeld) b p q = absurd p
+    one_ask n start moves node client name mode (Node NotWaiting) b p q = absurd p
     one_ask n start moves node client name mode NotUnderWay b p q = absurd p
     one_ask n start moves node client name mode Memory b p q = absurd p
     one_ask n start moves node client name mode NoNode (Node NotHeld) p q = absurd q
+    one_ask n start moves node client name mode NoNode (Node NotWaiting) p q = absurd q
     one_ask n start moves node client name mode NoNode NotUnderWay p q = absurd q
     one_ask n start moves node client name mode NoNode Memory p q = absurd q
     one_ask n start moves node client name mode (Node Busy) (Node NotHeld) p q = absurd q
+    one_ask n start moves node client name mode (Node Busy) (Node NotWaiting) p q = absurd q
     one_ask n start moves node client name mode (Node Busy) NotUnderWay p q = absurd q
     one_ask n start moves node client name mode (Node Busy) Memory p q = absurd q
     one_ask n start moves node client name mode (Node Exhausted) (Node NotHeld) p q = absurd q
+    one_ask n start moves node client name mode (Node Exhausted) (Node NotWaiting) p q = absurd q
     one_ask n start moves node client name mode (Node Exhausted) NotUnderWay p q = absurd q
     one_ask n start moves node client name mode (Node Exhausted) Memory p q = absurd q
 
@@ -126,6 +153,31 @@ module _
     one_leave n start moves node client name (Node NotHeld) (Node Exhausted) p q = absurd q
     one_leave n start moves node client name (Node NotHeld) NotUnderWay p q = absurd q
     one_leave n start moves node client name (Node NotHeld) Memory p q = absurd q
+    one_leave n start moves node client name (Node NotWaiting) b p q = absurd p
+    one_leave n start moves node client name NoNode (Node NotWaiting) p q = absurd q
+    one_leave n start moves node client name (Node NotHeld) (Node NotWaiting) p q = absurd q
+
+    one_cancel : (n start : ℕ) (moves : List Move) (node client : ℕ) (name : List ℕ) (a b : StepError)
+        → HasCause n start moves (Cancel node client name) a → HasCause n start moves (Cancel node client name) b → a ≡ b
+    one_cancel n start moves node client name NoNode NoNode p q = refl
+    one_cancel n start moves node client name (Node NotWaiting) (Node NotWaiting) p q = refl
+    one_cancel n start moves node client name NoNode (Node NotWaiting) p q = absurd (omega (arith, p, q.last))
+    one_cancel n start moves node client name (Node NotWaiting) NoNode p q = absurd (omega (arith, q, p.last))
+    one_cancel n start moves node client name (Node Busy) b p q = absurd p
+    one_cancel n start moves node client name (Node Exhausted) b p q = absurd p
+    one_cancel n start moves node client name NotUnderWay b p q = absurd p
+    one_cancel n start moves node client name Memory b p q = absurd p
+    one_cancel n start moves node client name NoNode (Node Busy) p q = absurd q
+    one_cancel n start moves node client name NoNode (Node Exhausted) p q = absurd q
+    one_cancel n start moves node client name NoNode NotUnderWay p q = absurd q
+    one_cancel n start moves node client name NoNode Memory p q = absurd q
+    one_cancel n start moves node client name (Node NotWaiting) (Node Busy) p q = absurd q
+    one_cancel n start moves node client name (Node NotWaiting) (Node Exhausted) p q = absurd q
+    one_cancel n start moves node client name (Node NotWaiting) NotUnderWay p q = absurd q
+    one_cancel n start moves node client name (Node NotWaiting) Memory p q = absurd q
+    one_cancel n start moves node client name (Node NotHeld) b p q = absurd p
+    one_cancel n start moves node client name NoNode (Node NotHeld) p q = absurd q
+    one_cancel n start moves node client name (Node NotWaiting) (Node NotHeld) p q = absurd q
 
     one_delivery : (n start : ℕ) (moves : List Move) (message : Message) (a : StepError)
         → HasCause n start moves (Deliver message) a → a ≡ NotUnderWay
@@ -152,6 +204,14 @@ module _
         → HasCause n start moves step a → HasCause n start moves step b → a ≡ b
     one_cause n start moves (Ask node client name mode) a b p q = one_ask n start moves node client name mode a b p q
     one_cause n start moves (Leave node client name) a b p q = one_leave n start moves node client name a b p q
+    one_cause n start moves (Cancel node client name) a b p q = one_cancel n start moves node client name a b p q
+    one_cause n start moves (Forget node) NoNode NoNode p q = refl
+    one_cause n start moves (Forget node) (Node why) b p q = absurd p
+    one_cause n start moves (Forget node) NotUnderWay b p q = absurd p
+    one_cause n start moves (Forget node) Memory b p q = absurd p
+    one_cause n start moves (Forget node) NoNode (Node why) p q = absurd q
+    one_cause n start moves (Forget node) NoNode NotUnderWay p q = absurd q
+    one_cause n start moves (Forget node) NoNode Memory p q = absurd q
     one_cause n start moves (Deliver message) a b p q =
         let x = one_delivery n start moves message a p in
         let y = one_delivery n start moves message b q in

@@ -1,5 +1,5 @@
 -- What holds of a cluster at any moment, and that each event of a node keeps it.
-use Rattle.std.proofs.Common.{◌≡◌, ◌≢◌, ℕ, ◌≤◌, Bool, true, false, cond, List, [], ◌∷◌, ◌++◌, All, Contains, refl, sym, ap, ◌∙◌, subst, append_assoc, arith, nat_eq, inl, inr}
+use Rattle.std.proofs.Common.{◌≡◌, ◌≢◌, ◌⊎◌, ℕ, ◌≤◌, Bool, true, false, cond, List, [], ◌∷◌, ◌++◌, All, Contains, refl, sym, ap, ◌∙◌, subst, append_assoc, arith, nat_eq, inl, inr}
 use Rattle.std.proofs.lemmas.List.{append-nil}
 use Rattle.std.proofs.lemmas.List.Elements.{All-append, All-weaker, All-push, All-contains}
 use Rattle.std.proofs.lemmas.Bool.{eq-eqb, ne_eqb}
@@ -8,16 +8,22 @@ use Rattle.ra_stamp.specs.declared.message.Message.{Message}
 use Rattle.ra_stamp.specs.declared.message.Message.TheVariants.{Request, Reply}
 use Rattle.ra_stamp.specs.declared.entry.Entry.{Entry}
 use Rattle.ra_stamp.specs.declared.entry.Mark.{Mark}
-use Rattle.ra_stamp.specs.declared.entry.Mark.TheVariants.{Left}
+use Rattle.ra_stamp.specs.declared.entry.Mark.TheVariants.{Left, Withdrawn}
 use Rattle.ra_stamp.specs.Message.{from_of, to_of, name_of, seq_of}
 use Rattle.ra_stamp.specs.Mode.{Conflict}
 use Rattle.ra_automaton.specs.State.{State, IsOtherNode, IsForNode, IsConsistent}
-use Rattle.ra_automaton.specs.Steps.{RequestStep, ReceiveStep, LeaveStep, LeaveAndRequestStep}
+use Rattle.ra_automaton.specs.Steps.{RequestStep, ReceiveStep, LeaveStep, WithdrawStep, EndAndRequestStep}
+use Rattle.ra_automaton.proofs.Ending.{EndStep}
+use Rattle.ra_node.proofs.Endings.{AreEnded, leaves_ended, withdraws_ended}
+use Rattle.ra_node.proofs.Forgetting.{forget_uses}
+use Rattle.ra_node.specs.Forgetting.{raised}
+use Rattle.ra_node.specs.Events.{ForgetEvent}
+use Rattle.ra_world.specs.Quiet.{withdrawn_in}
 use Rattle.ra_bag.specs.Bag.{TakesFirst}
 use Rattle.ra_node.specs.Resource.{Resource, Use, use_of}
-use Rattle.ra_node.specs.Resource.Use.{Nobody, HoldsBy}
-use Rattle.ra_node.proofs.HandOverStep.{handed_step, handed_marks}
-use Rattle.ra_node.specs.Turns.{request_marks, next_entry, EntersBy, AskTurn, LeaveTurn, ReceiveTurn}
+use Rattle.ra_node.specs.Resource.Use.{Nobody, WaitsBy, HoldsBy}
+use Rattle.ra_node.proofs.HandOverStep.{handed_marks}
+use Rattle.ra_node.specs.Turns.{request_marks, next_entry, EntersBy, AskTurn, Leaves, Withdraws, EndTurn, LeaveTurn, CancelTurn, ReceiveTurn}
 use Rattle.ra_node.specs.Node.{NodeState, resource_at, IsConsistentNode}
 use Rattle.ra_node.specs.Carried.{IsSend, MarksLead}
 use Rattle.ra_table.specs.Table.{LockTable, TableSteps}
@@ -27,9 +33,9 @@ use Rattle.ra_world.proofs.Lists.{filter_left, All-taken}
 use Rattle.ra_world.proofs.Dialogs.{belongs, between, IsOf, belongs_not, between_none}
 use Rattle.ra_world.proofs.Protocol.{IsNode, IsPlaced, Changes}
 use Rattle.ra_world.proofs.Asking.{none_between}
-use Rattle.ra_world.proofs.Conduct.{Conduct, request_conduct, leave_conduct, request_taken_conduct, reply_taken_conduct, lost_conduct, copied_conduct, undisturbed_conduct}
-use Rattle.ra_world.proofs.Marking.{Tabled, Alters}
-use Rattle.ra_world.proofs.EventMarks.{MayBeGranted, IsOwn, same_others, use_after, run_request, run_entered, run_left, run_handed, run_nothing}
+use Rattle.ra_world.proofs.Conduct.{Conduct, request_conduct, leave_conduct, withdraw_conduct, rise_conduct, request_taken_conduct, reply_taken_conduct, lost_conduct, copied_conduct, undisturbed_conduct}
+use Rattle.ra_world.proofs.Marking.{Tabled, Alters, unmarked}
+use Rattle.ra_world.proofs.EventMarks.{MayBeGranted, IsOwn, same_others, use_after, run_request, run_entered, EndsWithMark, left_ends, withdrawn_ends, run_end, run_handed, run_nothing}
 use Rattle.ra_world.proofs.Uses.{IsRequestOf, use_granted, use_waits, may_be_granted}
 
 abbrev pub states : (ℕ → NodeState) → List ℕ → ℕ → State
@@ -69,15 +75,15 @@ leads_request : (entered : Bool) (w w' : Use) (e : Entry) → MarksLead w (reque
 leads_request false w w' e leads = (leads.0, leads.1)
 leads_request true w w' e leads = (leads.0, leads.1.1)
 
-leads_handed : (entered : Bool) (w w' : Use) (e f : Entry) → MarksLead w (Left e ∷ request_marks entered f) w' → (w ≡ HoldsBy e) × (w' ≡ use_after entered f)
-leads_handed entered w w' e f leads = (leads.0, (leads_request entered Nobody w' f leads.1).1)
+-- the mark of the end of a request leads from its use to nobody
+abbrev LeadsEnd : (Entry → Mark) → (Entry → Use) → Type 0
+LeadsEnd mark was = (e : Entry) (marks : List Mark) (w w' : Use) → MarksLead w (mark e ∷ marks) w' → (w ≡ was e) × MarksLead Nobody marks w'
 
-handed_raises : {mode : Mode} {sends : List Message} {entered : Bool} (old mid new : State) (step : LeaveAndRequestStep old mode sends entered new) → old.highest ≤ new.highest
-handed_raises old mid new step =
-    let left : step.between.highest ≡ old.highest = ap (λ (x : State). x.highest) step.leaves.new_is in
+handed_raises : {mode : Mode} {sends : List Message} {entered : Bool} (old new : State) (step : EndAndRequestStep (EndStep old) mode sends entered new) → old.highest ≤ new.highest
+handed_raises old new step =
     elim step.asks.begins [
-      | inl asks ↦ omega (arith, left, ap (λ (x : State). x.highest) asks.new_is)
-      | inr alone ↦ omega (arith, left, ap (λ (x : State). x.highest) alone.new_is)
+      | inl asks ↦ omega (arith, step.ends.highest_is, ap (λ (x : State). x.highest) asks.new_is)
+      | inr alone ↦ omega (arith, step.ends.highest_is, ap (λ (x : State). x.highest) alone.new_is)
     ]
 
 -- the nodes except for one are as before
@@ -238,52 +244,105 @@ module _ {Lossy Copied : Type 0} (symmetric : (a b : Mode) → Conflict a b → 
   put_state : (s : ℕ → State) (x : State) → Changes s (with_state s x) p x
   put_state s x = record { here = ap (λ b. cond b x (s p)) (eq-eqb p p refl); there = λ k apart. ap (λ b. cond b x (s k)) (ne_eqb k p apart) }
 
+  -- the request of a client ends, by a leave or a withdrawal
+  module _ (Ends : Entry → List Message → Resource → Type 0) (mark : Entry → Mark) (was : Entry → Use) (ended_by : AreEnded before Ends) (leads_end : LeadsEnd mark was) (marks_end : EndsWithMark n p r went.within mark was)
+      (own : (e : Entry) → use_of before ≡ was e → IsRequestOf before.state e)
+      -- what an end keeps of the dialogs, and that it keeps the state consistent
+      (conducts : (e : Entry) (replies : List Message) (x : Resource) → Ends e replies x → (s' : ℕ → State) → Changes (states nodes r) s' p x.state → IsPlaced n r p x.state → Conduct Lossy Copied start n r s' (bag ++ replies))
+      (consistent : (e : Entry) (replies : List Message) (x : Resource) → Ends e replies x → IsConsistent x.state)
+    where
+      pub ended : (marks : List Mark) → rest ≡ bag → EndTurn Ends mark before sends marks after → MarksLead (use_of before) marks (use_of after)
+          → (t : LockTable) × TableSteps table marks t × Invariant Lossy Copied start n nodes' (rest ++ sends) t
+      ended marks same turn leads =
+          let untaken = λ (q : List ℕ) (i j : ℕ) (apart : q ≢ r). ap (between q i j) same in
+          let all = subst (All (IsTraffic n)) (sym same) old.traffic in
+          let placed = (old.protocol r).exchanges.each p went.within in
+          elim turn [
+            | inl nobody ↦
+                let kept = conducts nobody.entry sends after nobody.ends (states nodes' r) state_changes placed_after in
+                let here : Conduct Lossy Copied start n r (states nodes' r) (rest ++ sends) = subst (λ (ms : List Message). Conduct Lossy Copied start n r (states nodes' r) (ms ++ sends)) (sym same) kept in
+                let e = nobody.entry in
+                let both = leads_end e [] (use_of before) (use_of after) (subst (λ (ms : List Mark). MarksLead (use_of before) ms (use_of after)) nobody.marks_are leads) in
+                let run = run_end n p r went.within mark was marks_end e (uses nodes) (uses nodes') (reaches nodes) (reaches nodes') table old.tabled (own_before e (own e both.0)) both.0 (alters Nobody both.1)
+                (higher (omega (arith, (ended_by e sends after nobody.ends).step.highest_is)))
+                in
+                (run.0, subst (λ (ms : List Mark). TableSteps table ms run.0) (sym nobody.marks_are) run.1, goes_on here untaken all run.0 run.2)
+            | inr hands ↦
+                let step : EndAndRequestStep (EndStep before.state) hands.next.mode sends hands.asks.entered after.state = record {
+                  between = hands.between.state;
+                  replies = hands.replies;
+                  requests = hands.requests;
+                  ends = (ended_by hands.entry hands.replies hands.between hands.ends).step;
+                  asks = hands.asks.step;
+                  sends_are = hands.sends_are;
+                } in
+                let handed = handed_marks Ends mark before ended_by sends marks after hands in
+                let mid = step.between in
+                let s1 = with_state (states nodes r) mid in
+                let put = put_state (states nodes r) mid in
+                let placed_mid : IsPlaced n r p mid = record {
+                  consistent = consistent hands.entry hands.replies hands.between hands.ends;
+                  me_is = step.ends.me_is ∙ placed.me_is;
+                  nodes_is = step.ends.nodes_is ∙ placed.nodes_is;
+                  name_is = step.ends.name_is ∙ placed.name_is;
+                } in
+                let first = conducts hands.entry hands.replies hands.between hands.ends s1 put placed_mid in
+                let asks : RequestStep (s1 p) hands.next.mode step.requests hands.asks.entered after.state = subst (λ (x : State). RequestStep x hands.next.mode step.requests hands.asks.entered after.state) (sym put.here) step.asks in
+                let second = request_conduct start n r s1 (states nodes' r) (bag ++ step.replies) p after.state first went.within
+                (record { here = state_changes.here; there = λ k apart. state_changes.there k apart ∙ sym (put.there k apart) }) hands.next.mode step.requests hands.asks.entered asks placed_after
+                in
+                let sent : (bag ++ step.replies) ++ step.requests ≡ rest ++ sends = append_assoc bag step.replies step.requests ∙ sym (λ k. same k ++ step.sends_are k) in
+                let here : Conduct Lossy Copied start n r (states nodes' r) (rest ++ sends) = subst (Conduct Lossy Copied start n r (states nodes' r)) sent second in
+                let e = hands.entry in
+                let f = next_entry before hands.next.client hands.next.mode in
+                let both = leads_end e (request_marks hands.asks.entered f) (use_of before) (use_of after) (subst (λ (ms : List Mark). MarksLead (use_of before) ms (use_of after)) handed leads) in
+                let next = (leads_request hands.asks.entered Nobody (use_of after) f both.1).1 in
+                let run = run_handed n p r went.within mark was marks_end e hands.asks.entered f (uses nodes) (uses nodes') (reaches nodes) (reaches nodes') table old.tabled (own_before e (own e both.0)) (own_before f (record { node_is = refl; name_is = refl })) both.0
+                (alters (use_after hands.asks.entered f) next) (omega arith) (higher (handed_raises before.state after.state step)) (λ yes. grant here f (next ∙ ap (λ b. use_after b f) yes))
+                in
+                (run.0, subst (λ (ms : List Mark). TableSteps table ms run.0) (sym handed) run.1, goes_on here untaken all run.0 run.2)
+          ]
+
   pub left : (client : ℕ) (marks : List Mark) → rest ≡ bag → LeaveTurn before client sends marks after → MarksLead (use_of before) marks (use_of after)
       → ((m : State) (replies : List Message) → LeaveStep before.state replies m → IsConsistent m)
       → (t : LockTable) × TableSteps table marks t × Invariant Lossy Copied start n nodes' (rest ++ sends) t
   left client marks same turn leads consistent =
+      ended (Leaves before client) Left HoldsBy (leaves_ended before client) (λ e ms w w' lead. (lead.0, lead.1)) (left_ends n p r went.within) (λ e used. (use_granted before e used).1)
+      (λ e replies x leaves s' changes placed. leave_conduct start n r (states nodes r) s' bag p x.state (old.protocol r) went.within changes replies leaves.step placed)
+      (λ e replies x leaves. consistent x.state replies leaves.step) marks same turn leads
+
+  -- ---- A client gives up
+
+  -- nothing is sent or marked, and only the queue changes
+  queue_left : (marks : List Mark) → rest ≡ bag → after.state ≡ before.state → after.client ≡ before.client → sends ≡ [] → marks ≡ [] → MarksLead (use_of before) marks (use_of after)
+      → (t : LockTable) × TableSteps table marks t × Invariant Lossy Copied start n nodes' (rest ++ sends) t
+  queue_left marks same same_state same_client no_sends no_marks leads =
       let untaken = λ (q : List ℕ) (i j : ℕ) (apart : q ≢ r). ap (between q i j) same in
       let all = subst (All (IsTraffic n)) (sym same) old.traffic in
-      let placed = (old.protocol r).exchanges.each p went.within in
+      let none : rest ++ sends ≡ bag = (λ k. same k ++ no_sends k) ∙ append-nil bag in
+      let here : Conduct Lossy Copied start n r (states nodes' r) (rest ++ sends) = undisturbed_conduct start n r (states nodes r) (states nodes' r) bag (rest ++ sends) (unmoved same_state) (λ i j. ap (between r i j) none) (old.protocol r) in
+      let stays : use_of after ≡ use_of before = subst (λ (ms : List Mark). MarksLead (use_of before) ms (use_of after)) no_marks leads in
+      let run = run_nothing n p r went.within (uses nodes) (uses nodes') (reaches nodes) (reaches nodes') table old.tabled (unaltered stays) (higher (omega (arith, ap (λ (x : State). x.highest) same_state))) in
+      (run.0, subst (λ (ms : List Mark). TableSteps table ms run.0) (sym no_marks) run.1, goes_on here untaken all run.0 run.2)
+
+  -- a request is withdrawn only if Copied is so
+  pub cancelled : (client : ℕ) (marks : List Mark) → rest ≡ bag → CancelTurn before client sends marks after → MarksLead (use_of before) marks (use_of after) → (withdrawn_in marks ≡ 0) ⊎ Copied
+      → ((m : State) (replies : List Message) → WithdrawStep before.state replies m → IsConsistent m)
+      → (t : LockTable) × TableSteps table marks t × Invariant Lossy Copied start n nodes' (rest ++ sends) t
+  cancelled client marks same turn leads may consistent =
       elim turn [
-        | inl leaves ↦
-            let kept = leave_conduct start n r (states nodes r) (states nodes' r) bag p after.state (old.protocol r) went.within state_changes sends leaves.leaves.step placed_after in
-            let here : Conduct Lossy Copied start n r (states nodes' r) (rest ++ sends) = subst (λ (ms : List Message). Conduct Lossy Copied start n r (states nodes' r) (ms ++ sends)) (sym same) kept in
-            let e = leaves.entry in
-            let both = subst (λ (ms : List Mark). MarksLead (use_of before) ms (use_of after)) leaves.marks_are leads in
-            let own = own_before e (use_granted before e both.0).1 in
-            let run = run_left n p r went.within e (uses nodes) (uses nodes') (reaches nodes) (reaches nodes') table old.tabled own both.0 (alters Nobody both.1)
-            (higher (omega (arith, ap (λ (x : State). x.highest) leaves.leaves.step.new_is)))
-            in
-            (run.0, subst (λ (ms : List Mark). TableSteps table ms run.0) (sym leaves.marks_are) run.1, goes_on here untaken all run.0 run.2)
-        | inr hands ↦
-            let step = handed_step before client sends marks after hands in
-            let handed = handed_marks before client sends marks after hands in
-            let mid = step.between in
-            let s1 = with_state (states nodes r) mid in
-            let put = put_state (states nodes r) mid in
-            let placed_mid : IsPlaced n r p mid = record {
-              consistent = consistent mid step.replies step.leaves;
-              me_is = ap (λ (x : State). x.me) step.leaves.new_is ∙ placed.me_is;
-              nodes_is = ap (λ (x : State). x.nodes) step.leaves.new_is ∙ placed.nodes_is;
-              name_is = ap (λ (x : State). x.name) step.leaves.new_is ∙ placed.name_is;
-            } in
-            let first = leave_conduct start n r (states nodes r) s1 bag p mid (old.protocol r) went.within put step.replies step.leaves placed_mid in
-            let asks : RequestStep (s1 p) hands.next.mode step.requests hands.asks.entered after.state = subst (λ (x : State). RequestStep x hands.next.mode step.requests hands.asks.entered after.state) (sym put.here) step.asks in
-            let second = request_conduct start n r s1 (states nodes' r) (bag ++ step.replies) p after.state first went.within
-            (record { here = state_changes.here; there = λ k apart. state_changes.there k apart ∙ sym (put.there k apart) }) hands.next.mode step.requests hands.asks.entered asks placed_after
-            in
-            let sent : (bag ++ step.replies) ++ step.requests ≡ rest ++ sends = append_assoc bag step.replies step.requests ∙ sym (λ k. same k ++ step.sends_are k) in
-            let here : Conduct Lossy Copied start n r (states nodes' r) (rest ++ sends) = subst (Conduct Lossy Copied start n r (states nodes' r)) sent second in
-            let e = hands.entry in
-            let f = next_entry before hands.next.client hands.next.mode in
-            let both = leads_handed hands.asks.entered (use_of before) (use_of after) e f (subst (λ (ms : List Mark). MarksLead (use_of before) ms (use_of after)) handed leads) in
-            let own = own_before e (use_granted before e both.0).1 in
-            let raises : before.state.highest ≤ after.state.highest = handed_raises before.state mid after.state step in
-            let run = run_handed n p r went.within e hands.asks.entered f (uses nodes) (uses nodes') (reaches nodes) (reaches nodes') table old.tabled own (own_before f (record { node_is = refl; name_is = refl })) both.0
-            (alters (use_after hands.asks.entered f) both.1) (omega arith) (higher raises) (λ yes. grant here f (both.1 ∙ ap (λ b. use_after b f) yes))
-            in
-            (run.0, subst (λ (ms : List Mark). TableSteps table ms run.0) (sym handed) run.1, goes_on here untaken all run.0 run.2)
+        | inl goes ↦ queue_left marks same (ap (λ (x : Resource). x.state) goes.new_is) (ap (λ (x : Resource). x.client) goes.new_is) goes.sends_are goes.marks_are leads
+        | inr ends ↦
+            let copied : Copied = elim may [ inr copied ↦ copied | inl none ↦ absurd (omega (arith, none, one_withdrawn ends)) ] in
+            ended (Withdraws before client) Withdrawn WaitsBy (withdraws_ended before client) (λ e ms w w' lead. (lead.0, lead.1)) (withdrawn_ends n p r went.within) (λ e used. (use_waits before e used).1)
+            (λ e replies x withdraws s' changes placed. withdraw_conduct start n r (states nodes r) s' bag p x.state (old.protocol r) went.within changes copied replies withdraws.step placed)
+            (λ e replies x withdraws. consistent x.state replies withdraws.step) marks same ends leads
+      ]
+    where
+      one_withdrawn : EndTurn (Withdraws before client) Withdrawn before sends marks after → 1 ≤ withdrawn_in marks
+      one_withdrawn ends = elim ends [
+        | inl nobody ↦ omega (arith, ap withdrawn_in nobody.marks_are)
+        | inr hands ↦ omega (arith, ap withdrawn_in hands.marks_are)
       ]
 
   -- ---- A message comes
@@ -332,6 +391,39 @@ module _ {Lossy Copied : Type 0} (symmetric : (a b : Mode) → Conflict a b → 
         goes_on here (λ q i j apart. filter_left (belongs q i j) bag m rest (belongs_not q i j m (λ is. apart (sym is.name_is ∙ name_is))) takes)
             (All-taken (IsTraffic n) bag m rest takes old.traffic).1 run.0 run.2,
       )
+
+-- ---- A node forgets names
+
+module _ {Lossy Copied : Type 0} (start n : ℕ) (nodes nodes' : ℕ → NodeState) (p : ℕ) (new : NodeState) (bag : List Message) (table : LockTable) (old : Invariant Lossy Copied start n nodes bag table) (within : IsNode n p) (turned : Turned nodes nodes' p new)
+    (there : IsThere n p new) (sends : List Message) (marks : List Mark) (event : ForgetEvent (nodes p) sends marks new) where
+  forgot_each : (i : ℕ) → IsNode n i → IsThere n i (nodes' i)
+  forgot_each i at = elim (cases_same i p) [
+    | inl same ↦ subst (λ (k : ℕ). IsThere n k (nodes' k)) (sym same) (subst (IsThere n p) (sym turned.here) there)
+    | inr apart ↦ subst (IsThere n i) (sym (turned.there i apart)) (old.each i at)
+  ]
+
+  resource_now : (i : ℕ) (q : List ℕ) → (i ≡ p) × (resource_at (nodes' i) q ≡ raised event.number (resource_at (nodes i) q)) ⊎ (resource_at (nodes' i) q ≡ resource_at (nodes i) q)
+  resource_now i q = elim (cases_same i p) [
+    | inl same ↦ inl (same, subst (λ (k : ℕ). resource_at (nodes' k) q ≡ raised event.number (resource_at (nodes k) q)) (sym same) (ap (λ (x : NodeState). resource_at x q) turned.here ∙ event.resources q))
+    | inr apart ↦ inr (ap (λ (x : NodeState). resource_at x q) (turned.there i apart))
+  ]
+
+  pub forgot : Invariant Lossy Copied start n nodes' bag table
+  forgot =
+      record {
+        each = forgot_each;
+        protocol = λ r.
+            rise_conduct start n r (states nodes r) (states nodes' r) bag p (resource_at new r).state (old.protocol r) within
+            (record { here = ap (λ (x : NodeState). (resource_at x r).state) turned.here; there = λ k apart. ap (λ (x : NodeState). (resource_at x r).state) (turned.there k apart) })
+            event.number (ap (λ (x : Resource). x.state) (event.resources r)) (placed_at n p new r there);
+        traffic = old.traffic;
+        tabled = unmarked n (uses nodes) (uses nodes') (reaches nodes) (reaches nodes') table old.tabled p [] within
+            (λ i q. elim (resource_now i q) [ inl rises ↦ omega (arith, ap (λ (x : Resource). x.state.highest) rises.1) | inr same ↦ omega (arith, ap (λ (x : Resource). x.state.highest) same) ])
+            (λ i q. elim (cases_same i p) [
+              | inl same ↦ subst (λ (k : ℕ). uses nodes' k q ≡ uses nodes k q) (sym same) (ap (λ (x : NodeState). use_of (resource_at x q)) turned.here ∙ forget_uses (nodes p) new sends marks event q)
+              | inr apart ↦ ap (λ (x : NodeState). use_of (resource_at x q)) (turned.there i apart)
+            ]);
+      }
 
 -- ---- A message is lost, or comes once more
 

@@ -1,5 +1,5 @@
 -- What holds of the automata of one name, one at each node, and of the messages under way: what holds also if messages were
--- repeated, and as long as none was, that each dialog has one message at most. Each step keeps it.
+-- repeated and requests withdrawn, and as long as none was, that each dialog has one message at most. Each step keeps it.
 use Rattle.std.proofs.Common.{◌≡◌, ◌≢◌, ◌⊎◌, ℕ, Bool, List, [], ◌∷◌, ◌++◌, Contains, sym, ap, ◌∙◌, subst, inl, inr}
 use Rattle.std.proofs.lemmas.List.{append-nil}
 use Rattle.ra_stamp.specs.declared.mode.Mode.{Mode}
@@ -7,18 +7,20 @@ use Rattle.ra_stamp.specs.declared.message.Message.{Message}
 use Rattle.ra_stamp.specs.declared.message.Message.TheVariants.{Request, Reply}
 use Rattle.ra_stamp.specs.Message.{from_of, to_of, seq_of}
 use Rattle.ra_automaton.specs.State.{State}
-use Rattle.ra_automaton.specs.Steps.{Awaits, RequestStep, LeaveStep, Defers, RepliesAtOnce, IsStray, TakesReply}
+use Rattle.ra_automaton.specs.Steps.{Awaits, RequestStep, LeaveStep, WithdrawStep, Defers, RepliesAtOnce, IsStray, TakesReply}
 use Rattle.ra_bag.specs.Bag.{TakesFirst}
 use Rattle.ra_automaton.proofs.Apart.{cases_same}
+use Rattle.ra_automaton.proofs.Ending.{leave_ends, withdraw_ends}
+use Rattle.ra_world.proofs.AutomatonSteps.{higher_state}
 use Rattle.ra_world.proofs.Dialogs.{between}
 use Rattle.ra_world.proofs.Protocol.{IsNode, IsPlaced, Protocol, Changes}
-use Rattle.ra_world.proofs.Asking.{request_kept, leave_kept}
+use Rattle.ra_world.proofs.Asking.{request_kept, leave_kept, rise_kept}
 use Rattle.ra_world.proofs.Receiving.{request_taken, reply_taken, message_lost, undisturbed}
 use Rattle.ra_world.proofs.Exchanges.{Exchanges}
-use Rattle.ra_world.proofs.ExchangesAsking.{request_exchanged, leave_exchanged, not_a_reply}
+use Rattle.ra_world.proofs.ExchangesAsking.{request_exchanged, end_exchanged, rise_exchanged, not_a_reply}
 use Rattle.ra_world.proofs.ExchangesReceiving.{request_came, reply_came, message_gone, message_copied, exchanges_undisturbed}
 
--- messages are repeated only if Copied is so
+-- messages are repeated, and requests withdrawn, only if Copied is so
 pub record Conduct (Lossy Copied : Type 0) (start n : ℕ) (r : List ℕ) (s : ℕ → State) (bag : List Message) : Type 0 where
   pub exchanges : Exchanges Lossy start n r s bag
   pub exact : (Copied → ⊥) → Protocol Lossy n r s bag
@@ -34,8 +36,24 @@ module _ {Lossy Copied : Type 0} (start n : ℕ) (r : List ℕ) (s s' : ℕ → 
   pub leave_conduct : (sends : List Message) → LeaveStep (s p) sends new → IsPlaced n r p new → Conduct Lossy Copied start n r s' (bag ++ sends)
   leave_conduct sends step placed =
       record {
-        exchanges = leave_exchanged start n r s s' bag p new old.exchanges within changes sends step placed;
+        exchanges = end_exchanged start n r s s' bag p new old.exchanges within changes sends (leave_ends (s p) sends new step) placed;
         exact = λ none. leave_kept n r s s' bag p new (old.exact none) within changes sends step placed;
+      }
+
+  -- a withdrawal leaves a REQUEST under way or deferred to which no request of the node belongs any more
+  pub withdraw_conduct : Copied → (sends : List Message) → WithdrawStep (s p) sends new → IsPlaced n r p new → Conduct Lossy Copied start n r s' (bag ++ sends)
+  withdraw_conduct copied sends step placed =
+      record {
+        exchanges = end_exchanged start n r s s' bag p new old.exchanges within changes sends (withdraw_ends (s p) sends new step) placed;
+        exact = λ none. absurd (none copied);
+      }
+
+  -- the node forgets names
+  pub rise_conduct : (number : ℕ) → new ≡ higher_state (s p) number → IsPlaced n r p new → Conduct Lossy Copied start n r s' bag
+  rise_conduct number is placed =
+      record {
+        exchanges = rise_exchanged start n r s s' bag p new old.exchanges within changes number is placed;
+        exact = λ none. rise_kept n r s s' bag p new (old.exact none) within changes number is placed;
       }
 
 module _ {Lossy Copied : Type 0} (start n : ℕ) (r : List ℕ) (s s' : ℕ → State) (bag rest : List Message) (p x : ℕ) (new : State) (old : Conduct Lossy Copied start n r s bag) (within : IsNode n p) (x_at : IsNode n x) (x_apart : x ≢ p) (changes : Changes s s' p new)

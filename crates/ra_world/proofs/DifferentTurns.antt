@@ -1,89 +1,86 @@
 -- What is said in a turn of a node on a name: each turn keeps that all messages of a dialog are different.
-use Rattle.std.proofs.Common.{◌≡◌, ◌≢◌, ◌⊎◌, ℕ, ◌+◌, ◌≤◌, Bool, true, false, cond, List, [], ◌∷◌, ◌++◌, map, Option, Some, None, refl, sym, ap, ◌∙◌, subst, arith, inl, inr}
+use Rattle.std.proofs.Common.{◌≡◌, ◌≢◌, ◌⊎◌, ℕ, suc, ◌+◌, ◌≤◌, Bool, true, false, cond, List, [], ◌∷◌, ◌++◌, Contains, filter, length, map, Option, Some, None, refl, sym, ap, ◌∙◌, subst, arith, inl, inr}
 use Rattle.std.specs.Ordering.{nat_cmp}
 use Rattle.std.specs.Cmp.{nat_cmp_total}
 use Rattle.std.specs.FinMap as finmap
+use Rattle.std.proofs.lemmas.Bool.{ne_eqb}
 use Rattle.std.proofs.lemmas.List.{append-nil}
 use Rattle.std.proofs.lemmas.List.Elements.{All-nil, All-cons}
 use Rattle.ra_stamp.specs.declared.mode.Mode.{Mode}
 use Rattle.ra_stamp.specs.declared.message.Message.{Message}
 use Rattle.ra_stamp.specs.declared.message.Message.TheVariants.{Request, Reply}
-use Rattle.ra_automaton.specs.declared.phase.Phase.{Phase}
-use Rattle.ra_automaton.specs.declared.phase.Phase.TheVariants.{Waiting}
-use Rattle.ra_automaton.specs.State.{State, HasNumber, IsConsistent}
-use Rattle.ra_automaton.specs.Steps.{others_of, later_of, Awaits, RequestStep, LeaveStep, Defers, RepliesAtOnce, TakesReply}
+use Rattle.ra_automaton.specs.State.{State}
+use Rattle.ra_automaton.specs.Steps.{others_of, later_of, RequestStep, Defers, RepliesAtOnce, TakesReply}
+use Rattle.ra_automaton.proofs.Ending.{EndStep}
 use Rattle.ra_bag.specs.Bag.{TakesFirst}
-use Rattle.ra_world.proofs.Lists.{filter_taken, filter_left, takes_none}
+use Rattle.ra_world.proofs.Lists.{filter_taken, filter_left}
 use Rattle.ra_automaton.proofs.Apart.{cases_same, tied, untied}
-use Rattle.ra_world.proofs.Dialogs.{belongs, between, IsOf, belongs_at, between_none, reply_for, requests_to_one, requests_of_others, replies_to_one, replies_of_others}
-use Rattle.ra_world.proofs.Protocol.{IsNode, Dialog, IsPlaced, Protocol}
+use Rattle.ra_world.proofs.Dialogs.{belongs, between, IsOf, belongs_is, belongs_at, between_none, reply_for, requests_to_one, requests_of_others, replies_to_one, replies_of_others}
+use Rattle.ra_world.proofs.Protocol.{IsNode, IsPlaced}
 use Rattle.ra_world.proofs.Asking.{more_between, none_between}
-use Rattle.ra_world.proofs.Receiving.{WasAsked, was_asked}
-use Rattle.ra_world.proofs.DifferentLists.{took_all, nothing_left}
-use Rattle.ra_world.proofs.DifferentDialogs.{Said, AllSaid, said_still, said_request, said_reply, said_later, said_after}
+use Rattle.ra_world.proofs.Exchanges.{Exchanges, was_first}
+use Rattle.ra_world.proofs.Lists.{contained_passes}
+use Rattle.ra_world.proofs.DifferentDialogs.{asks_with, asked_for, one_if, deferred_with, one_more, one_less, Said, AllSaid, said_still, said_request, said_reply, said_later, said_after}
 
--- ---- Numbers that were met
+-- ---- What is taken
 
--- a node has met the number of its request
-pub awaits_met : (s : State) (j seq : ℕ) (mode : Mode) → IsConsistent s → Awaits s j seq mode → seq ≤ s.highest
-awaits_met s j seq mode consistent awaits =
-    let numbered : HasNumber (Waiting seq mode) s.highest = subst (λ (q : Phase). HasNumber q s.highest) awaits.waits consistent.numbered in
-    numbered.1
-
--- a node that is deferred has met the number
-pub deferred_met : {Lossy : Type 0} (r : List ℕ) (i j : ℕ) (si sj : State) (ms : List Message) (seq : ℕ) → IsConsistent si → Dialog Lossy r i j si sj ms → finmap.get sj.deferred i ≡ Some seq → seq ≤ si.highest
-deferred_met {Lossy} r i j si sj ms seq consistent d here = elim d [
-  | inl silent ↦ absurd (some_none (sym here ∙ silent.not_deferred))
-  | inr x ↦ elim x [
-    | inl asking ↦ absurd (some_none (sym here ∙ asking.not_deferred))
-    | inr y ↦ elim y [
-      | inl deferred ↦ subst (λ (k : ℕ). k ≤ si.highest) (same_some (sym deferred.deferred ∙ here)) (awaits_met si j deferred.seq deferred.mode consistent deferred.awaits)
-      | inr answered ↦ absurd (some_none (sym here ∙ answered.not_deferred))
-    ]
-  ]
-]
-  where
-    some_none : {k : ℕ} → ◌≡◌ {A = Option ℕ} (Some k) None → ⊥
-    some_none e = cc
-
-    same_some : {k k' : ℕ} → ◌≡◌ {A = Option ℕ} (Some k) (Some k') → k ≡ k'
-    same_some e = cc
-
--- a dialog has one message under way, or none; so nothing is left of it once one is taken
-one_taken : {Lossy : Type 0} (r : List ℕ) (i j : ℕ) (si sj : State) (ms : List Message) (m : Message) (rest : List Message) → Dialog Lossy r i j si sj ms → TakesFirst ms m rest → rest ≡ []
-one_taken {Lossy} r i j si sj ms m rest d takes = elim d [
-  | inl silent ↦ absurd (takes_none m rest (subst (λ (xs : List Message). TakesFirst xs m rest) silent.none takes))
-  | inr x ↦ elim x [
-    | inl asking ↦ nothing_left ms m rest (Request i j r asking.mode asking.seq) takes asking.asks
-    | inr y ↦ elim y [
-      | inl deferred ↦ absurd (takes_none m rest (subst (λ (xs : List Message). TakesFirst xs m rest) deferred.none takes))
-      | inr answered ↦ nothing_left ms m rest (Reply j i r answered.seq) takes answered.answers
-    ]
-  ]
-]
-
--- what a message that is taken leaves of a dialog: all, or nothing
-pub left_of : {Lossy : Type 0} (r : List ℕ) (i j : ℕ) (si sj : State) (bag : List Message) (m : Message) (rest : List Message) → Dialog Lossy r i j si sj (between r i j bag) → TakesFirst bag m rest
-    → (between r i j rest ≡ between r i j bag) ⊎ (between r i j rest ≡ [])
-left_of {Lossy} r i j si sj bag m rest d takes =
-    elim (belongs r i j m) as (λ b. belongs r i j m ≡ b → (between r i j rest ≡ between r i j bag) ⊎ (between r i j rest ≡ [])) [
-      | true ↦ λ e. inr (one_taken r i j si sj (between r i j bag) m (between r i j rest) d (filter_taken (belongs r i j) bag m rest e takes))
-      | false ↦ λ e. inl (filter_left (belongs r i j) bag m rest e takes)
+-- no more REQUESTs are under way after a message is taken
+pub fewer_asked : (r : List ℕ) (i j : ℕ) (bag : List Message) (m : Message) (rest : List Message) → TakesFirst bag m rest → (k : ℕ) → asked_for k (between r i j rest) ≤ asked_for k (between r i j bag)
+fewer_asked r i j bag m rest takes k =
+    elim (belongs r i j m) as (λ b. belongs r i j m ≡ b → asked_for k (between r i j rest) ≤ asked_for k (between r i j bag)) [
+      | true ↦ λ e. omega (arith, one_less (asks_with k) (between r i j bag) m (between r i j rest) (filter_taken (belongs r i j) bag m rest e takes))
+      | false ↦ λ e. omega (arith, ap (asked_for k) (filter_left (belongs r i j) bag m rest e takes))
     ] refl
+
+-- ---- What is known of the next number: nobody has met it
+
+-- no REQUEST of p to x has this number yet, under way or deferred
+abbrev pub IsNew : ℕ → List ℕ → ℕ → (ℕ → State) → List Message → ℕ → Type 0
+IsNew n r p s bag seq = (x : ℕ) → IsNode n x → x ≢ p → (asked_for seq (between r p x bag) ≡ 0) × (deferred_with seq (finmap.get (s x).deferred p) ≡ 0)
+
+pub next_is_new : {Lossy : Type 0} (start n : ℕ) (r : List ℕ) (s : ℕ → State) (bag : List Message) (p : ℕ) → IsNode n p → Exchanges Lossy start n r s bag → IsNew n r p s bag ((s p).highest + 1)
+next_is_new {Lossy} start n r s bag p within exchanges x at apart =
+    let d = exchanges.dialog p x within at (λ e. apart (sym e)) in
+    (none_new (between r p x bag) (λ k mode there. (d.asked k mode there).used.reached) (λ m there. of_dialog m there), none_deferred (finmap.get (s x).deferred p) (λ k is. (d.deferred k is).reached))
+  where
+    seq : ℕ
+    seq = (s p).highest + 1
+
+    -- a message of this dialog
+    of_dialog : (m : Message) → Contains (between r p x bag) m → IsOf r p x m
+    of_dialog m there = belongs_is r p x m (contained_passes (belongs r p x) bag m there)
+
+    none_deferred : (o : Option ℕ) → ((k : ℕ) → o ≡ Some k → k ≤ (s p).highest) → deferred_with seq o ≡ 0
+    none_deferred None low = refl
+    none_deferred (Some k) low = ap one_if (ne_eqb k seq (λ e. omega (arith, e, low k refl)))
+
+    later : (x : Message) (ms : List Message) (m : Message) → Contains ms m → Contains (x ∷ ms) m
+    later x ms m at = (suc at.0, omega (arith, at.1), at.2)
+
+    -- by the messages one after the other: each REQUEST is of p to x about r, so its number was met
+    none_new : (ms : List Message) → ((k : ℕ) (mode : Mode) → Contains ms (Request p x r mode k) → k ≤ (s p).highest) → ((m : Message) → Contains ms m → IsOf r p x m) → asked_for seq ms ≡ 0
+    none_new [] low of = refl
+    none_new (Reply from to name k ∷ ms) low of = none_new ms (λ q mode at. low q mode (later (Reply from to name k) ms (Request p x r mode q) at)) (λ m at. of m (later (Reply from to name k) ms m at))
+    none_new (Request from to name mode k ∷ ms) low of =
+        let m = Request from to name mode k in
+        let is = of m (0, omega arith, refl) in
+        let met = low k mode (subst (Contains (m ∷ ms)) (λ z. Request (is.asker z) (is.answerer z) (is.name_is z) mode k) (0, omega arith, refl)) in
+        ap (λ b. length (cond b (m ∷ filter (asks_with seq) ms) (filter (asks_with seq) ms))) (ne_eqb k seq (λ e. omega (arith, e, met)))
+        ∙ none_new ms (λ q mode' at. low q mode' (later m ms (Request p x r mode' q) at)) (λ y at. of y (later m ms y at))
 
 -- ---- A turn that sends nothing
 
 module _ (n : ℕ) (r : List ℕ) (s s' : ℕ → State) (bag bag' sent sent' : List Message) (said : AllSaid n r s bag sent) where
   pub said_nothing : ((i : ℕ) → IsNode n i → (s i).highest ≤ (s' i).highest) → ((i j : ℕ) → IsNode n i → IsNode n j → finmap.get (s' j).deferred i ≡ finmap.get (s j).deferred i)
-      → ((i j : ℕ) → IsNode n i → IsNode n j → i ≢ j → (between r i j bag' ≡ between r i j bag) ⊎ (between r i j bag' ≡ [])) → ((i j : ℕ) → between r i j sent' ≡ between r i j sent) → AllSaid n r s' bag' sent'
+      → ((i j k : ℕ) → IsNode n i → IsNode n j → i ≢ j → asked_for k (between r i j bag') ≤ asked_for k (between r i j bag)) → ((i j : ℕ) → between r i j sent' ≡ between r i j sent) → AllSaid n r s' bag' sent'
   said_nothing more deferred under_way same i j at_i at_j apart =
       said_still r i j (s i) (s' i) (s j) (s' j) (between r i j bag) (between r i j bag') (between r i j sent) (between r i j sent') (said i j at_i at_j apart)
-      (more i at_i) (deferred i j at_i at_j) (under_way i j at_i at_j apart) (same i j)
+      (more i at_i) (deferred i j at_i at_j) (λ k. under_way i j k at_i at_j apart) (same i j)
 
 module _ (n : ℕ) (r : List ℕ) (s s' : ℕ → State) (bag sent : List Message) (said : AllSaid n r s bag sent) (p : ℕ) (within : IsNode n p) (there : (k : ℕ) → IsNode n k → k ≢ p → s' k ≡ s k) where
   -- ---- A request
 
-  module _ (me_is : (s p).me ≡ p) (nodes_is : (s p).nodes ≡ n) (name_is : (s p).name ≡ r) (mode : Mode) (sends : List Message) (entered : Bool) (step : RequestStep (s p) mode sends entered (s' p)) where
+  module _ (me_is : (s p).me ≡ p) (nodes_is : (s p).nodes ≡ n) (name_is : (s p).name ≡ r) (mode : Mode) (sends : List Message) (entered : Bool) (step : RequestStep (s p) mode sends entered (s' p)) (new : IsNew n r p s bag ((s p).highest + 1)) where
     abbrev seq : ℕ
     seq = (s p).highest + 1
 
@@ -106,25 +103,25 @@ module _ (n : ℕ) (r : List ℕ) (s s' : ℕ → State) (bag sent : List Messag
         (λ x at apart.
         let one : between r p x sends ≡ Request p x r mode seq ∷ [] = ap (between r p x) sends_are ∙ requests_to_one r p x n mode seq at.0 at.1 apart in
         said_request r p x (s p) (s' p) (s x) (s x) (between r p x bag) (between r p x (bag ++ sends)) (between r p x sent) (between r p x (sent ++ sends)) (said p x within at (λ e. apart (sym e)))
-        seq mode refl raised.0 refl (more_between r p x bag sends (Request p x r mode seq ∷ []) one) (more_between r p x sent sends (Request p x r mode seq ∷ []) one))
+        seq mode refl raised.0 refl (new x at apart).0 (new x at apart).1 (more_between r p x bag sends (Request p x r mode seq ∷ []) one) (more_between r p x sent sends (Request p x r mode seq ∷ []) one))
         (λ x at apart.
         said_still r x p (s x) (s x) (s p) (s' p) (between r x p bag) (between r x p (bag ++ sends)) (between r x p sent) (between r x p (sent ++ sends)) (said x p at within apart)
-        (omega arith) (ap (λ (m : finmap.FinMap nat_cmp ℕ). finmap.get m x) raised.1) (inl (apart_none x p bag apart)) (apart_none x p sent apart))
+        (omega arith) (ap (λ (m : finmap.FinMap nat_cmp ℕ). finmap.get m x) raised.1) (λ k. omega (arith, ap (asked_for k) (apart_none x p bag apart))) (apart_none x p sent apart))
         (λ i j at_i at_j apart i_apart j_apart.
         said_still r i j (s i) (s i) (s j) (s j) (between r i j bag) (between r i j (bag ++ sends)) (between r i j sent) (between r i j (sent ++ sends)) (said i j at_i at_j apart)
-        (omega arith) refl (inl (apart_none i j bag i_apart)) (apart_none i j sent i_apart))
+        (omega arith) refl (λ k. omega (arith, ap (asked_for k) (apart_none i j bag i_apart))) (apart_none i j sent i_apart))
 
-  -- ---- A leave
+  -- ---- The end of a request
 
-  module _ (me_is : (s p).me ≡ p) (name_is : (s p).name ≡ r) (met : (x k : ℕ) → IsNode n x → x ≢ p → finmap.get (s p).deferred x ≡ Some k → k ≤ (s x).highest) (sends : List Message) (step : LeaveStep (s p) sends (s' p)) where
+  module _ (me_is : (s p).me ≡ p) (name_is : (s p).name ≡ r) (met : (x k : ℕ) → IsNode n x → x ≢ p → finmap.get (s p).deferred x ≡ Some k → k ≤ (s x).highest) (sends : List Message) (step : EndStep (s p) sends (s' p)) where
     replies_are : sends ≡ map (λ e. Reply p e.0 r e.1) (finmap.entries (s p).deferred)
     replies_are = step.sends_are ∙ (λ i. map (λ e. Reply (me_is i) e.0 (name_is i) e.1) (finmap.entries (s p).deferred))
 
     none_deferred : (x : ℕ) → finmap.get (s' p).deferred x ≡ None
-    none_deferred x = ap (λ (t : State). finmap.get t.deferred x) step.new_is ∙ finmap.get-empty nat_cmp x
+    none_deferred x = ap (λ (d : finmap.FinMap nat_cmp ℕ). finmap.get d x) step.none_deferred ∙ finmap.get-empty nat_cmp x
 
     same_highest : (s' p).highest ≡ (s p).highest
-    same_highest = ap (λ (t : State). t.highest) step.new_is
+    same_highest = step.highest_is
 
     -- other dialogs have no message of this
     apart_silent : (i j : ℕ) (xs : List Message) → j ≢ p → between r i j (xs ++ sends) ≡ between r i j xs
@@ -134,41 +131,44 @@ module _ (n : ℕ) (r : List ℕ) (s s' : ℕ → State) (bag sent : List Messag
     answers x at apart None none =
         let nothing : between r x p sends ≡ [] = ap (between r x p) replies_are ∙ replies_to_one r p x (s p).deferred ∙ ap (reply_for r p x) none in
         said_still r x p (s x) (s x) (s p) (s' p) (between r x p bag) (between r x p (bag ++ sends)) (between r x p sent) (between r x p (sent ++ sends)) (said x p at within apart)
-        (omega arith) (none_deferred x ∙ sym none) (inl (none_between r x p bag sends nothing)) (none_between r x p sent sends nothing)
+        (omega arith) (none_deferred x ∙ sym none) (λ k. omega (arith, ap (asked_for k) (none_between r x p bag sends nothing))) (none_between r x p sent sends nothing)
     answers x at apart (Some k) some =
         let one : between r x p sends ≡ Reply p x r k ∷ [] = ap (between r x p) replies_are ∙ replies_to_one r p x (s p).deferred ∙ ap (reply_for r p x) some in
         let old = said x p at within apart in
         said_reply r x p (s x) (s x) (s p) (s' p) (between r x p bag) (between r x p (bag ++ sends)) (between r x p sent) (between r x p (sent ++ sends)) old
-        k (between r x p bag) (met x k at apart some) refl (old.deferred k some) (none_deferred x)
-        (more_between r x p bag sends (Reply p x r k ∷ []) one) (more_between r x p sent sends (Reply p x r k ∷ []) one)
+        k (met x k at apart some) (omega arith) (more_between r x p sent sends (Reply p x r k ∷ []) one)
+        (λ q. omega (
+          arith,
+          ap (asked_for q) (more_between r x p bag sends (Reply p x r k ∷ []) one) ∙ one_more (asks_with q) (between r x p bag) (Reply p x r k),
+          ap (deferred_with q) (none_deferred x),
+          ap (deferred_with q) some,
+        ))
 
-    pub said_leaving : AllSaid n r s' (bag ++ sends) (sent ++ sends)
-    said_leaving =
+    pub said_ending : AllSaid n r s' (bag ++ sends) (sent ++ sends)
+    said_ending =
         said_after n r s s' (bag ++ sends) (sent ++ sends) p within there
         (λ x at apart.
         said_still r p x (s p) (s' p) (s x) (s x) (between r p x bag) (between r p x (bag ++ sends)) (between r p x sent) (between r p x (sent ++ sends)) (said p x within at (λ e. apart (sym e)))
-        (omega (arith, same_highest)) refl (inl (apart_silent p x bag apart)) (apart_silent p x sent apart))
+        (omega (arith, same_highest)) refl (λ k. omega (arith, ap (asked_for k) (apart_silent p x bag apart))) (apart_silent p x sent apart))
         (λ x at apart. answers x at apart (finmap.get (s p).deferred x) refl)
         (λ i j at_i at_j apart i_apart j_apart.
         said_still r i j (s i) (s i) (s j) (s j) (between r i j bag) (between r i j (bag ++ sends)) (between r i j sent) (between r i j (sent ++ sends)) (said i j at_i at_j apart)
-        (omega arith) refl (inl (apart_silent i j bag j_apart)) (apart_silent i j sent j_apart))
+        (omega arith) refl (λ k. omega (arith, ap (asked_for k) (apart_silent i j bag j_apart))) (apart_silent i j sent j_apart))
 
   -- ---- A message comes
 
-  module _ {Lossy : Type 0} (protocol : Protocol Lossy n r s bag) (rest sends : List Message) where
+  module _ {Lossy : Type 0} (start : ℕ) (exchanges : Exchanges Lossy start n r s bag) (rest sends : List Message) where
     abbrev held : IsPlaced n r p (s p)
-    held = protocol.each p within
+    held = exchanges.each p within
 
     module _ (x : ℕ) (x_at : IsNode n x) (x_apart : x ≢ p) (seq : ℕ) (mode : Mode) (takes : TakesFirst bag (Request x p r mode seq) rest)
         (step : Defers (s p) x seq mode sends (s' p) ⊎ RepliesAtOnce (s p) x seq mode sends (s' p)) where
       here : TakesFirst (between r x p bag) (Request x p r mode seq) (between r x p rest)
       here = filter_taken (belongs r x p) bag (Request x p r mode seq) rest (belongs_at r x p (Request x p r mode seq) (record { asker = refl; answerer = refl; name_is = refl })) takes
 
-      asked : WasAsked x p (s x) (s p) seq mode (between r x p rest)
-      asked = was_asked r x p (s x) (s p) (between r x p bag) seq mode (between r x p rest) here (protocol.dialog x p x_at within x_apart)
-
-      was_under_way : between r x p bag ≡ Request x p r mode seq ∷ []
-      was_under_way = took_all (between r x p bag) (Request x p r mode seq) (between r x p rest) here asked.none
+      -- the asker has met the number
+      met_by_asker : seq ≤ (s x).highest
+      met_by_asker = ((exchanges.dialog x p x_at within x_apart).asked seq mode (was_first (between r x p bag) (Request x p r mode seq) (between r x p rest) here)).used.reached
 
       not_sent : (i j : ℕ) → (i ≡ x → j ≡ p → ⊥) → between r i j sends ≡ []
       not_sent i j apart = elim step [
@@ -195,7 +195,7 @@ module _ (n : ℕ) (r : List ℕ) (s s' : ℕ → State) (bag sent : List Messag
           let none = not_sent i j other in
           let more_none = none_between r i j rest sends none in
           said_still r i j (s i) si (s j) sj (between r i j bag) (between r i j (rest ++ sends)) (between r i j sent) (between r i j (sent ++ sends)) (said i j at_i at_j apart) more deferred
-          (elim (left_of r i j (s i) (s j) bag (Request x p r mode seq) rest (protocol.dialog i j at_i at_j apart) takes) [ inl same ↦ inl (more_none ∙ same) | inr nothing ↦ inr (more_none ∙ nothing) ])
+          (λ k. omega (arith, ap (asked_for k) more_none, fewer_asked r i j bag (Request x p r mode seq) rest takes k))
           (none_between r i j sent sends none)
 
       -- the dialog of the REQUEST
@@ -203,23 +203,26 @@ module _ (n : ℕ) (r : List ℕ) (s s' : ℕ → State) (bag sent : List Messag
       this_one = elim step [
         | inl defers ↦
             let nothing = ap (between r x p) defers.sends_are in
-            let later : later_of (finmap.get (s p).deferred x) seq ≡ seq = ap (λ o. later_of o seq) asked.not_deferred in
             said_later r x p (s x) (s x) (s p) (s' p) (between r x p bag) (between r x p (rest ++ sends)) (between r x p sent) (between r x p (sent ++ sends)) (said x p x_at within x_apart)
-            seq mode (omega arith) was_under_way
+            seq mode (omega arith) (subst (TakesFirst (between r x p bag) (Request x p r mode seq)) (sym (none_between r x p rest sends nothing)) here)
             (ap (λ (t : State). finmap.get t.deferred x) defers.new_is
             ∙ finmap.get-insert nat_cmp_total (s p).deferred x (later_of (finmap.get (s p).deferred x) seq) x
-            ∙ ap (λ b. cond b (Some (later_of (finmap.get (s p).deferred x) seq)) (finmap.get (s p).deferred x)) (tied x x refl) ∙ ap (λ k. Some k) later)
-            (none_between r x p rest sends nothing ∙ asked.none) (none_between r x p sent sends nothing)
+            ∙ ap (λ b. cond b (Some (later_of (finmap.get (s p).deferred x) seq)) (finmap.get (s p).deferred x)) (tied x x refl))
+            (none_between r x p sent sends nothing)
         | inr replies ↦
-            let answer : between r x p sends ≡ Reply p x r seq ∷ [] =
+            let reply = Reply p x r seq in
+            let answer : between r x p sends ≡ reply ∷ [] =
             ap (between r x p) (replies.sends_are ∙ (λ i. Reply (held.me_is i) x (held.name_is i) seq ∷ []))
-            ∙ ap (λ b. cond b (Reply p x r seq ∷ []) []) (belongs_at r x p (Reply p x r seq) (record { asker = refl; answerer = refl; name_is = refl }))
+            ∙ ap (λ b. cond b (reply ∷ []) []) (belongs_at r x p reply (record { asker = refl; answerer = refl; name_is = refl }))
             in
-            let old = said x p x_at within x_apart in
-            said_reply r x p (s x) (s x) (s p) (s' p) (between r x p bag) (between r x p (rest ++ sends)) (between r x p sent) (between r x p (sent ++ sends)) old
-            seq (between r x p rest) (awaits_met (s x) p seq mode (protocol.each x x_at).consistent asked.awaits) refl (old.asked seq mode was_under_way)
-            (ap (λ (t : State). finmap.get t.deferred x) replies.new_is ∙ asked.not_deferred)
-            (more_between r x p rest sends (Reply p x r seq ∷ []) answer) (more_between r x p sent sends (Reply p x r seq ∷ []) answer)
+            said_reply r x p (s x) (s x) (s p) (s' p) (between r x p bag) (between r x p (rest ++ sends)) (between r x p sent) (between r x p (sent ++ sends)) (said x p x_at within x_apart)
+            seq met_by_asker (omega arith) (more_between r x p sent sends (reply ∷ []) answer)
+            (λ k. omega (
+              arith,
+              ap (asked_for k) (more_between r x p rest sends (reply ∷ []) answer) ∙ one_more (asks_with k) (between r x p rest) reply,
+              one_less (asks_with k) (between r x p bag) (Request x p r mode seq) (between r x p rest) here,
+              ap (deferred_with k) (ap (λ (t : State). finmap.get t.deferred x) replies.new_is),
+            ))
       ]
 
       pub said_on_request : AllSaid n r s' (rest ++ sends) (sent ++ sends)
@@ -252,7 +255,7 @@ module _ (n : ℕ) (r : List ℕ) (s s' : ℕ → State) (bag sent : List Messag
       pub said_on_reply : AllSaid n r s' (rest ++ sends) (sent ++ sends)
       said_on_reply =
           said_nothing n r s s' bag (rest ++ sends) sent (sent ++ sends) said (λ i at. omega (arith, (node_stays i at).0)) (λ i j at_i at_j. ap (λ (d : finmap.FinMap nat_cmp ℕ). finmap.get d i) (node_stays j at_j).1)
-          (λ i j at_i at_j apart.
+          (λ i j k at_i at_j apart.
           let same : between r i j (rest ++ sends) ≡ between r i j rest = ap (λ (xs : List Message). between r i j (rest ++ xs)) nothing ∙ ap (between r i j) (append-nil rest) in
-          elim (left_of r i j (s i) (s j) bag m rest (protocol.dialog i j at_i at_j apart) takes) [ inl all ↦ inl (same ∙ all) | inr none ↦ inr (same ∙ none) ])
+          omega (arith, ap (asked_for k) same, fewer_asked r i j bag m rest takes k))
           (λ i j. ap (λ (xs : List Message). between r i j (sent ++ xs)) nothing ∙ ap (between r i j) (append-nil sent))

@@ -4,15 +4,16 @@ use Rattle.std.specs.Prelude.{bytes_eq}
 use Rattle.std.proofs.lemmas.Slice.Eq.{bytes_eq-Decides}
 use Rattle.std.proofs.lemmas.Bool.{and_parts, eq-eqb, eqb-true, false_from_ne_true}
 use Rattle.ra_stamp.specs.declared.entry.Entry.{Entry}
-use Rattle.ra_stamp.specs.declared.entry.Mark.TheVariants.{Entered, Left}
+use Rattle.ra_stamp.specs.declared.entry.Mark.{Mark}
+use Rattle.ra_stamp.specs.declared.entry.Mark.TheVariants.{Entered, Left, Withdrawn}
 use Rattle.ra_stamp.specs.Mode.{Conflict}
 use Rattle.ra_stamp.specs.Stamp.{IsEarlier}
 use Rattle.ra_node.specs.Resource.{Use}
 use Rattle.ra_node.specs.Resource.Use.{Nobody, WaitsBy, HoldsBy}
 use Rattle.ra_node.specs.Turns.{request_marks}
-use Rattle.ra_table.specs.Table.{LockTable, TableSteps}
+use Rattle.ra_table.specs.Table.{LockTable, TableStep, TableSteps}
 use Rattle.ra_world.proofs.Protocol.{IsNode}
-use Rattle.ra_world.proofs.Marking.{Tabled, Alters, unmarked, requested, granted, given_back}
+use Rattle.ra_world.proofs.Marking.{Tabled, Alters, unmarked, requested, granted, given_back, withdrawn}
 
 -- ---- One use put in the place of another
 
@@ -76,19 +77,30 @@ module _ (n p : ℕ) (r : List ℕ) (within : IsNode n p) where
       let step = granted n u u' h h' t tabled p r within higher e own.node_is own.name_is waits alters may.met may.free may.first in
       (step.0, (step.0, step.1, refl), step.2)
 
-  pub run_left : (e : Entry) (u u' : ℕ → List ℕ → Use) (h h' : ℕ → List ℕ → ℕ) (t : LockTable) → Tabled n u h t → IsOwn p r e → u p r ≡ HoldsBy e → Alters u u' p r Nobody
-      → ((i : ℕ) (q : List ℕ) → h i q ≤ h' i q) → (new : LockTable) × TableSteps t (Left e ∷ []) new × Tabled n u' h' new
-  run_left e u u' h h' t tabled own holds alters higher =
-      let step = given_back n u u' h h' t tabled p r within higher e own.node_is own.name_is holds alters in
+  -- a request ends with this mark, if it was this use of the name
+  abbrev pub EndsWithMark : (Entry → Mark) → (Entry → Use) → Type 0
+  EndsWithMark mark was = (u u' : ℕ → List ℕ → Use) (h h' : ℕ → List ℕ → ℕ) (t : LockTable) → Tabled n u h t → ((i : ℕ) (q : List ℕ) → h i q ≤ h' i q) → (e : Entry) → e.stamp.node ≡ p → e.name ≡ r → u p r ≡ was e
+      → Alters u u' p r Nobody → (new : LockTable) × TableStep t (mark e) new × Tabled n u' h' new
+
+  pub left_ends : EndsWithMark Left HoldsBy
+  left_ends u u' h h' t tabled higher e node_is name_is held alters = given_back n u u' h h' t tabled p r within higher e node_is name_is held alters
+
+  pub withdrawn_ends : EndsWithMark Withdrawn WaitsBy
+  withdrawn_ends u u' h h' t tabled higher e node_is name_is waits alters = withdrawn n u u' h h' t tabled p r within higher e node_is name_is waits alters
+
+  pub run_end : (mark : Entry → Mark) (was : Entry → Use) → EndsWithMark mark was → (e : Entry) (u u' : ℕ → List ℕ → Use) (h h' : ℕ → List ℕ → ℕ) (t : LockTable) → Tabled n u h t → IsOwn p r e → u p r ≡ was e → Alters u u' p r Nobody
+      → ((i : ℕ) (q : List ℕ) → h i q ≤ h' i q) → (new : LockTable) × TableSteps t (mark e ∷ []) new × Tabled n u' h' new
+  run_end mark was ends e u u' h h' t tabled own used alters higher =
+      let step = ends u u' h h' t tabled higher e own.node_is own.name_is used alters in
       (step.0, (step.0, step.1, refl), step.2)
 
-  -- a leave, and the request of the next client
-  pub run_handed : (e : Entry) (entered : Bool) (f : Entry) (u u' : ℕ → List ℕ → Use) (h h' : ℕ → List ℕ → ℕ) (t : LockTable) → Tabled n u h t → IsOwn p r e → IsOwn p r f → u p r ≡ HoldsBy e
+  -- and the next client's request is made
+  pub run_handed : (mark : Entry → Mark) (was : Entry → Use) → EndsWithMark mark was → (e : Entry) (entered : Bool) (f : Entry) (u u' : ℕ → List ℕ → Use) (h h' : ℕ → List ℕ → ℕ) (t : LockTable) → Tabled n u h t → IsOwn p r e → IsOwn p r f → u p r ≡ was e
       → Alters u u' p r (use_after entered f) → h p r < f.stamp.seq → ((i : ℕ) (q : List ℕ) → h i q ≤ h' i q) → (entered ≡ true → MayBeGranted n u h' p r f)
-      → (new : LockTable) × TableSteps t (Left e ∷ request_marks entered f) new × Tabled n u' h' new
-  run_handed e entered f u u' h h' t tabled own own' holds alters above higher may =
+      → (new : LockTable) × TableSteps t (mark e ∷ request_marks entered f) new × Tabled n u' h' new
+  run_handed mark was ends e entered f u u' h h' t tabled own own' used alters above higher may =
       let mid = with_use u p r Nobody in
-      let one = given_back n u mid h h t tabled p r within (λ i q. omega arith) e own.node_is own.name_is holds (put_use u p r Nobody) in
+      let one = ends u mid h h t tabled (λ i q. omega arith) e own.node_is own.name_is used (put_use u p r Nobody) in
       let grant : entered ≡ true → MayBeGranted n mid h' p r f = λ yes. same_others n u mid h' p r f (λ j apart. use_there u p r Nobody j r (λ same _. apart same)) (may yes) in
       let two = run_request entered f mid u' h h' one.0 one.2 own' (use_here u p r Nobody) (then_put u u' p r Nobody (use_after entered f) alters) above higher grant in
       (two.0, (one.0, one.1, two.1), two.2)

@@ -12,17 +12,19 @@ use Rattle.ra_automaton.specs.Steps.{greatest_number}
 use Rattle.ra_node.specs.declared.outcome.Outcome.{Outcome}
 use Rattle.ra_node.specs.declared.error.AskError.{AskError}
 use Rattle.ra_node.specs.declared.error.AskError.TheVariants as ask
+use Rattle.ra_node.specs.declared.error.CancelError.{CancelError}
+use Rattle.ra_node.specs.declared.error.CancelError.TheVariants as cancel
 use Rattle.ra_node.specs.declared.error.LeaveError.{LeaveError}
 use Rattle.ra_node.specs.declared.error.LeaveError.TheVariants as leave
-use Rattle.ra_node.specs.Resource.{IsBusy, Holds}
+use Rattle.ra_node.specs.Resource.{IsBusy, Holds, IsKeptWaiting}
 use Rattle.ra_node.specs.Turns.{MayAsk}
 use Rattle.ra_node.specs.Memory.{BringsNothing}
 use Rattle.ra_node.specs.Events.{Event, NodeEvent}
-use Rattle.ra_node.specs.Events.Event.{Ask as AskedFor, Leave as GivenBack, Receive as Received}
+use Rattle.ra_node.specs.Events.Event.{Ask as AskedFor, Leave as GivenBack, Cancel as GivenUp, Receive as Received, Forget as Forgot}
 use Rattle.ra_node.specs.Node.{NodeState, resource_at}
 use Rattle.ra_world.specs.declared.step.Step.{Step}
-use Rattle.ra_world.specs.declared.step.Step.TheVariants.{Ask, Leave, Deliver}
-use Rattle.ra_world.specs.declared.error.NodeRefusal.TheVariants.{Busy, Exhausted, NotHeld}
+use Rattle.ra_world.specs.declared.step.Step.TheVariants.{Ask, Leave, Cancel, Deliver, Forget}
+use Rattle.ra_world.specs.declared.error.NodeRefusal.TheVariants.{Busy, Exhausted, NotHeld, NotWaiting}
 use Rattle.ra_world.specs.declared.error.StepError.{StepError}
 use Rattle.ra_world.specs.declared.error.StepError.TheVariants.{NoNode, NotUnderWay, Node, Memory}
 use Rattle.ra_world.specs.declared.world.kept_steps.KeptSteps.{KeptSteps}
@@ -31,8 +33,8 @@ use Rattle.ra_world.specs.Run.{IsRun, IsFit, GoesOn, EndsWith, events_at}
 use Rattle.ra_world.specs.World.{WorldState, HasCause}
 use Rattle.ra_world.specs.Keeping.{nodes_of, Keeps, IsShort, Tries}
 use Rattle.ra_world.specs.Trying.{TakesEqual, LeavesOthers, IsEventRefusal, TriesAt}
-use Rattle.ra_world.specs.Refused.{refusal_of_ask, refusal_of_leave}
-use Rattle.ra_world.proofs.StepTries.{shown, same_nodes, at_node, node_here, ask_on, leave_on, kept_by, here}
+use Rattle.ra_world.specs.Refused.{refusal_of_ask, refusal_of_leave, refusal_of_cancel}
+use Rattle.ra_world.proofs.StepTries.{shown, same_nodes, at_node, node_here, ask_on, leave_on, cancel_on, kept_by, here}
 use Rattle.ra_world.proofs.AtPlace.{number_of, kept_back, moved}
 
 -- ---- Why a node refuses
@@ -61,6 +63,17 @@ leave_refused s moves client name leave.NotHeld cause is free may =
     subst (IsEventRefusal s moves (GivenBack client name)) (sym is) (free refl)
 leave_refused s moves client name leave.Memory cause is free may =
     subst (IsEventRefusal s moves (GivenBack client name)) (sym is) (may refl)
+
+-- the refusal of a cancel
+pub cancel_refused : (s : NodeState) (moves : List Move) (client : ℕ) (name : List ℕ) (e : CancelError) (cause : StepError)
+    → cause ≡ refusal_of_cancel e
+    → (e ≡ cancel.NotWaiting → IsKeptWaiting (resource_at s name) client → ⊥)
+    → (e ≡ cancel.Memory → IsKeptWaiting (resource_at s name) client)
+    → IsEventRefusal s moves (GivenUp client name) cause
+cancel_refused s moves client name cancel.NotWaiting cause is free may =
+    subst (IsEventRefusal s moves (GivenUp client name)) (sym is) (free refl)
+cancel_refused s moves client name cancel.Memory cause is free may =
+    subst (IsEventRefusal s moves (GivenUp client name)) (sym is) (may refl)
 
 -- ---- A step that is tried at the node of a place
 
@@ -130,6 +143,7 @@ module _
             inl (at_node start nodes kept.under_way.items kept.log.moves place i old
             (λ s. (IsBusy (resource_at s name) client → ⊥) × ((resource_at s name).state.highest ≡ greatest_number)) keeps_run number within at exhausted)
         why (Node NotHeld) refused = absurd refused
+        why (Node NotWaiting) refused = absurd refused
         why Memory may = inr (record {
           is_memory = refl;
           goes_on = ask_on allowed start nodes kept.under_way.items kept.log.moves place i client name mode old keeps_run number within at may;
@@ -161,12 +175,71 @@ module _
         why NotUnderWay refused = absurd refused
         why (Node Busy) refused = absurd refused
         why (Node Exhausted) refused = absurd refused
+        why (Node NotWaiting) refused = absurd refused
         why (Node NotHeld) free =
             inl (at_node start nodes kept.under_way.items kept.log.moves place i old (λ s. (entry : Entry) → Holds (resource_at s name) client entry → ⊥) keeps_run number within at free)
         why Memory may = inr (record {
           is_memory = refl;
           goes_on = leave_on allowed start nodes kept.under_way.items kept.log.moves place i client name old keeps_run number within at may;
           needs = inl tt;
+        })
+
+    -- a client gives up
+    pub given_up :
+        ((n start : ℕ) (moves : List Move) (nodes : ℕ → NodeState)
+        → IsNodeNumber n → IsRun n start moves → EndsWith n start moves nodes
+        → (node client : ℕ) (name : List ℕ)
+        → GoesOn n start moves (Cancel node client name)
+        ↔ (((1 ≤ node) × (node ≤ n)) × IsKeptWaiting (resource_at (nodes node) name) client))
+        → (client : ℕ) (name : List ℕ) → step ≡ Cancel i client name
+        → TriesAt step (GivenUp client name) old kept r new kept'
+        → Tries w (Cancel i client name) r (shown start (set nodes place new) kept'.log.moves)
+        × Keeps start (set nodes place new) kept'.under_way.items kept'.log.moves
+    given_up allowed client name this tried =
+        let event = GivenUp client name in
+        let tries = subst (λ (s : Step). TriesAt s event old kept r new kept') this tried in (
+          tried_at start nodes kept kept' place w (Cancel i client name) event old new r is at why tries,
+          kept_at (Cancel i client name) event r (λ sends marks. number_of nodes place i number within) (here i event) (λ left all. all) tries,
+        )
+      where
+        why : (cause : StepError) → IsEventRefusal old kept.log.moves (GivenUp client name) cause
+            → HasCause (length nodes) start kept.log.moves (Cancel i client name) cause
+            ⊎ IsShort (shown start nodes kept.log.moves) (Cancel i client name) cause
+        why NoNode refused = absurd refused
+        why NotUnderWay refused = absurd refused
+        why (Node Busy) refused = absurd refused
+        why (Node Exhausted) refused = absurd refused
+        why (Node NotHeld) refused = absurd refused
+        why (Node NotWaiting) free =
+            inl (at_node start nodes kept.under_way.items kept.log.moves place i old (λ s. IsKeptWaiting (resource_at s name) client → ⊥) keeps_run number within at free)
+        why Memory may = inr (record {
+          is_memory = refl;
+          goes_on = cancel_on allowed start nodes kept.under_way.items kept.log.moves place i client name old keeps_run number within at may;
+          needs = inl tt;
+        })
+
+    -- a node forgets
+    pub forgot :
+        ((n start : ℕ) (moves : List Move) → IsNodeNumber n → IsRun n start moves → (node : ℕ) → GoesOn n start moves (Forget node) ↔ ((1 ≤ node) × (node ≤ n)))
+        → step ≡ Forget i → TriesAt step Forgot old kept r new kept'
+        → Tries w (Forget i) r (shown start (set nodes place new) kept'.log.moves)
+        × Keeps start (set nodes place new) kept'.under_way.items kept'.log.moves
+    forgot allowed this tried =
+        let tries = subst (λ (s : Step). TriesAt s Forgot old kept r new kept') this tried in (
+          tried_at start nodes kept kept' place w (Forget i) Forgot old new r is at why tries,
+          kept_at (Forget i) Forgot r (λ sends marks. number_of nodes place i number within) (here i Forgot) (λ left all. all) tries,
+        )
+      where
+        why : (cause : StepError) → IsEventRefusal old kept.log.moves Forgot cause
+            → HasCause (length nodes) start kept.log.moves (Forget i) cause
+            ⊎ IsShort (shown start nodes kept.log.moves) (Forget i) cause
+        why NoNode refused = absurd refused
+        why NotUnderWay refused = absurd refused
+        why (Node which) refused = absurd refused
+        why Memory full = inr (record {
+          is_memory = refl;
+          goes_on = (allowed (length nodes) start kept.log.moves keeps_run.count keeps_run.run i).1 (number_of nodes place i number within);
+          needs = inr full;
         })
 
     -- a message that is under way

@@ -1,5 +1,7 @@
--- A request, and a leave, keep what holds of all dialogs, also if messages were repeated.
+-- A request, its end, and a rise of numbers keep what holds of all dialogs, also if messages were repeated.
 use Rattle.std.proofs.Common.{◌≡◌, ◌≢◌, ℕ, zero, suc, ◌+◌, ◌<◌, ◌≤◌, Bool, List, [], ◌∷◌, ◌++◌, Contains, map, Option, Some, None, refl, sym, ap, ◌∙◌, subst, arith, inl, inr}
+use Rattle.std.specs.Prelude.{IsTrue}
+use Rattle.std.specs.FinSet as set
 use Rattle.std.specs.FinMap as finmap
 use Rattle.std.proofs.lemmas.List.Elements.{Contains-append_left, Contains-append_right, Contains-append_cases, Contains-push, Contains-push_cases}
 use Rattle.ra_stamp.specs.declared.mode.Mode.{Mode}
@@ -7,10 +9,11 @@ use Rattle.ra_stamp.specs.declared.message.Message.{Message}
 use Rattle.ra_stamp.specs.declared.message.Message.TheVariants.{Request, Reply}
 use Rattle.ra_stamp.specs.Message.{seq_of}
 use Rattle.ra_automaton.specs.State.{State}
-use Rattle.ra_automaton.specs.Steps.{others_of, Awaits, RequestStep, LeaveStep}
+use Rattle.ra_automaton.specs.Steps.{others_of, Awaits, RequestStep}
+use Rattle.ra_automaton.proofs.Ending.{EndStep}
 use Rattle.ra_world.proofs.Dialogs.{between, reply_for, requests_to_one, requests_of_others, replies_to_one, replies_of_others}
 use Rattle.ra_world.proofs.Protocol.{IsNode, HasOwn, LetsPass, IsPlaced, Changes}
-use Rattle.ra_world.proofs.AutomatonSteps.{idle_has_none, idle_goes_last, awaits_has, requests_are, all_asked, passes_after_request, own_after_request, higher_after_request, replies_are, idle_after_leave, none_deferred, passes_after_leave}
+use Rattle.ra_world.proofs.AutomatonSteps.{idle_has_none, idle_goes_last, awaits_has, requests_are, all_asked, passes_after_request, own_after_request, higher_after_request, replies_are, idle_after_end, none_deferred, passes_after_end, higher_state, passes_higher}
 use Rattle.ra_world.proofs.Exchanges.{IsUsed, Exchange, Exchanges, exchanges_changed, exchange_kept, grants_still, pending_still}
 use Rattle.ra_world.proofs.Asking.{more_between, none_between}
 
@@ -104,9 +107,9 @@ module _ {Lossy : Type 0} (start n : ℕ) (r : List ℕ) (s s' : ℕ → State) 
         (λ x k m at apart has free. absurd (free (asks_all x at apart).0.awaited))
         lets_pass within
 
-  -- ---- A leave
+  -- ---- The end of a request
 
-  module _ (sends : List Message) (step : LeaveStep (s p) sends new) (placed : IsPlaced n r p new) where
+  module _ (sends : List Message) (step : EndStep (s p) sends new) (placed : IsPlaced n r p new) where
     abbrev held : IsPlaced n r p (s p)
     held = old.each p within
 
@@ -114,17 +117,17 @@ module _ {Lossy : Type 0} (start n : ℕ) (r : List ℕ) (s s' : ℕ → State) 
     sent = replies_are n r p (s p) new held sends step
 
     idle : (k : ℕ) (m : Mode) → HasOwn new.phase k m → ⊥
-    idle k m = idle_has_none new.phase k m (idle_after_leave n r p (s p) new held sends step)
+    idle k m = idle_has_none new.phase k m (idle_after_end n r p (s p) new held sends step)
 
     passes_now : (x k : ℕ) (m : Mode) → k ≤ (s p).highest → LetsPass new x k m
-    passes_now = passes_after_leave n r p (s p) new held sends step
+    passes_now = passes_after_end n r p (s p) new held sends step
 
-    leave_mine : (x : ℕ) → IsNode n x → x ≢ p → Exchange Lossy start r p x (s p) (s x) (between r p x bag) → Exchange Lossy start r p x new (s x) (between r p x (bag ++ sends))
-    leave_mine x at apart d =
+    end_mine : (x : ℕ) → IsNode n x → x ≢ p → Exchange Lossy start r p x (s p) (s x) (between r p x bag) → Exchange Lossy start r p x new (s x) (between r p x (bag ++ sends))
+    end_mine x at apart d =
         let ms = between r p x bag in
         let same = none_between r p x bag sends (ap (between r p x) sent ∙ replies_of_others r r p x p (finmap.entries (s p).deferred) (λ e _. apart e)) in
         subst (λ (xs : List Message). Exchange Lossy start r p x new (s x) xs) (sym same)
-        (exchange_kept start r p x (s p) new (s x) (s x) ms ms d (record { more = omega (arith, ap (λ (t : State). t.highest) step.new_is); own = λ k m has. absurd (idle k m has) })
+        (exchange_kept start r p x (s p) new (s x) (s x) ms ms d (record { more = omega (arith, step.highest_is); own = λ k m has. absurd (idle k m has) })
         (λ _ _ pass. pass) (λ _ is. is) (λ _ there. there) (λ k m awaits. absurd (idle k m (awaits_has new x k m awaits))))
 
     left : (x : ℕ) (o : Option ℕ) → finmap.get (s p).deferred x ≡ o → Exchange Lossy start r x p (s x) (s p) (between r x p bag) → Exchange Lossy start r x p (s x) new (between r x p bag ++ reply_for r p x o)
@@ -166,17 +169,46 @@ module _ {Lossy : Type 0} (start n : ℕ) (r : List ℕ) (s s' : ℕ → State) 
         none_some : (k : ℕ) → ◌≡◌ {A = Option ℕ} None (Some k) → ⊥
         none_some k e = cc
 
-    leave_theirs : (x : ℕ) → IsNode n x → x ≢ p → Exchange Lossy start r x p (s x) (s p) (between r x p bag) → Exchange Lossy start r x p (s x) new (between r x p (bag ++ sends))
-    leave_theirs x at apart d =
+    end_theirs : (x : ℕ) → IsNode n x → x ≢ p → Exchange Lossy start r x p (s x) (s p) (between r x p bag) → Exchange Lossy start r x p (s x) new (between r x p (bag ++ sends))
+    end_theirs x at apart d =
         let o = finmap.get (s p).deferred x in
         subst (λ (xs : List Message). Exchange Lossy start r x p (s x) new xs)
         (sym (more_between r x p bag sends (reply_for r p x o) (ap (between r x p) sent ∙ replies_to_one r p x (s p).deferred)))
         (left x o refl d)
 
-    pub leave_exchanged : Exchanges Lossy start n r s' (bag ++ sends)
-    leave_exchanged =
-        exchanges_changed start n r s s' bag (bag ++ sends) p new old changes placed (omega (arith, ap (λ (t : State). t.highest) step.new_is)) leave_mine leave_theirs
+    pub end_exchanged : Exchanges Lossy start n r s' (bag ++ sends)
+    end_exchanged =
+        exchanges_changed start n r s s' bag (bag ++ sends) p new old changes placed (omega (arith, step.highest_is)) end_mine end_theirs
         (λ i j i_apart j_apart. none_between r i j bag sends (ap (between r i j) sent ∙ replies_of_others r r i j p (finmap.entries (s p).deferred) (λ e _. j_apart e)))
         (λ x k m at apart has free. absurd (idle k m has))
         (λ x k m pass. passes_now x k m pass.reached)
+        within
+
+  -- ---- The highest number rises, and nothing else changes
+
+  module _ (number : ℕ) (is : new ≡ higher_state (s p) number) (placed : IsPlaced n r p new) where
+    abbrev high : State
+    high = higher_state (s p) number
+
+    rise_mine : (x : ℕ) → Exchange Lossy start r p x (s p) (s x) (between r p x bag) → Exchange Lossy start r p x new (s x) (between r p x bag)
+    rise_mine x d =
+        let ms = between r p x bag in
+        subst (λ (t : State). Exchange Lossy start r p x t (s x) ms) (sym is)
+        (exchange_kept start r p x (s p) high (s x) (s x) ms ms d (record { more = omega arith; own = λ _ _ has. has }) (λ _ _ pass. pass) (λ _ at. at) (λ _ there. there)
+        (λ k m awaits. d.pending k m (record { waits = awaits.waits; awaited = awaits.awaited })))
+
+    rise_theirs : (x : ℕ) → Exchange Lossy start r x p (s x) (s p) (between r x p bag) → Exchange Lossy start r x p (s x) new (between r x p bag)
+    rise_theirs x d =
+        let ms = between r x p bag in
+        subst (λ (t : State). Exchange Lossy start r x p (s x) t ms) (sym is)
+        (exchange_kept start r x p (s x) (s x) (s p) high ms ms d (record { more = omega arith; own = λ _ _ has. has }) (passes_higher (s p) number x) (λ _ at. at) (λ _ there. there)
+        (λ k m awaits. pending_still r x p (s p) high ms ms k m (λ held. record { deferred = held.deferred; own_first = held.own_first }) (λ _ there. there) (d.pending k m awaits)))
+
+    pub rise_exchanged : Exchanges Lossy start n r s' bag
+    rise_exchanged =
+        exchanges_changed start n r s s' bag bag p new old changes placed (omega (arith, ap (λ (t : State). t.highest) is)) (λ x _ _. rise_mine x) (λ x _ _. rise_theirs x)
+        (λ i j i_apart j_apart. refl)
+        (λ x k m at apart has free.
+        old.passed p x k m within at (λ e. apart (sym e)) (subst (λ (t : State). HasOwn t.phase k m) is has) (λ awaited. free (subst (λ (t : State). IsTrue (set.contains t.awaited x)) (sym is) awaited)))
+        (λ x k m pass. subst (λ (t : State). LetsPass t x k m) (sym is) (passes_higher (s p) number x k m pass))
         within

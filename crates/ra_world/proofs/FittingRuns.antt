@@ -13,9 +13,9 @@ use Rattle.ra_automaton.specs.State.{IsOtherNode}
 use Rattle.ra_automaton.proofs.Apart.{cases_same}
 use Rattle.ra_node.specs.Node.{NodeState, opening_node}
 use Rattle.ra_node.specs.Events.{Event, Happening, NodeEvent, NodeEvents}
-use Rattle.ra_node.specs.Events.Event.{Ask as AskedFor, Leave as GivenBack, Receive as Received}
+use Rattle.ra_node.specs.Events.Event.{Ask as AskedFor, Leave as GivenBack, Cancel as GivenUp, Receive as Received, Forget as Forgot}
 use Rattle.ra_world.specs.declared.step.Step.{Step}
-use Rattle.ra_world.specs.declared.step.Step.TheVariants.{Ask, Leave, Deliver, Lose, Repeat}
+use Rattle.ra_world.specs.declared.step.Step.TheVariants.{Ask, Leave, Cancel, Deliver, Lose, Repeat, Forget}
 use Rattle.ra_world.specs.Traffic.{Move, LeavesUnderWay, IsUnderWay, put_by, taken_in, taken_by, repeated_in}
 use Rattle.ra_world.specs.Run.{IsFit, IsRun, EndsWith, events_at, happened_at, with_node}
 use Rattle.ra_world.specs.Fitting.{sent_in, happened_by, WasSentBy, NamesNode, FitTogether, TellsApart, IsLeftBy, FitWithCopies}
@@ -138,6 +138,8 @@ module _ (n start : ℕ) (steps : List Step) (happened : ℕ → List Happening)
         one_taken : (s : Step) → length (taken_in s) ≤ 1
         one_taken (Ask node client name mode) = omega arith
         one_taken (Leave node client name) = omega arith
+        one_taken (Cancel node client name) = omega arith
+        one_taken (Forget node) = omega arith
         one_taken (Deliver message) = omega arith
         one_taken (Lose message) = omega arith
         one_taken (Repeat message) = omega arith
@@ -309,6 +311,15 @@ module _
         let event = GivenBack client name in
         let within = names prefix step suffix parts before in
         on_by_event prefix step suffix parts before node within event (at_node node event) (λ _ _. within)
+    one_on prefix (Cancel node client name) suffix parts before =
+        let step = Cancel node client name in
+        let event = GivenUp client name in
+        let within = names prefix step suffix parts before in
+        on_by_event prefix step suffix parts before node within event (at_node node event) (λ _ _. within)
+    one_on prefix (Forget node) suffix parts before =
+        let step = Forget node in
+        let within = names prefix step suffix parts before in
+        on_by_event prefix step suffix parts before node within Forgot (at_node node Forgot) (λ _ _. within)
     one_on prefix (Deliver message) suffix parts before =
         let step = Deliver message in
         let event = Received message in

@@ -7,13 +7,13 @@ use Rattle.ra_stamp.specs.declared.entry.Entry.{Entry}
 use Rattle.ra_stamp.specs.declared.entry.Mark.{Mark}
 use Rattle.ra_stamp.specs.Message.{to_of}
 use Rattle.ra_stamp.specs.NodeId.{IsNodeNumber}
-use Rattle.ra_node.specs.Resource.{Holds}
+use Rattle.ra_node.specs.Resource.{Holds, IsKeptWaiting}
 use Rattle.ra_node.specs.Turns.{MayAsk}
 use Rattle.ra_node.specs.Node.{NodeState, resource_at, IsConsistentNode}
 use Rattle.ra_node.specs.Events.{Event, Happening, NodeEvent, NodeEvents, AllowsEvent}
-use Rattle.ra_node.specs.Events.Event.{Ask as AskedFor, Leave as GivenBack, Receive as Received}
+use Rattle.ra_node.specs.Events.Event.{Ask as AskedFor, Leave as GivenBack, Cancel as GivenUp, Receive as Received, Forget as Forgot}
 use Rattle.ra_world.specs.declared.step.Step.{Step}
-use Rattle.ra_world.specs.declared.step.Step.TheVariants.{Ask, Leave, Deliver, Lose, Repeat}
+use Rattle.ra_world.specs.declared.step.Step.TheVariants.{Ask, Leave, Cancel, Deliver, Lose, Repeat, Forget}
 use Rattle.ra_world.specs.Below.{LawsBelow}
 use Rattle.ra_world.specs.Traffic.{Move, IsUnderWay}
 use Rattle.ra_world.specs.Run.{events_at, IsFit, IsRun, EndsWith, GoesOn, with_node}
@@ -88,6 +88,20 @@ module _ (laws : LawsBelow) (n start : ℕ) (ms : List Move) (nodes : ℕ → No
         λ on. let within = fit_of step on in (within, (laws.may_leave (nodes p) client name (consistent_at p within)).0 (allowed_by step p within event (at_node p event) on)),
         λ (within, holds). on_by step p within event (at_node p event) (λ _ _. within) ((laws.may_leave (nodes p) client name (consistent_at p within)).1 holds),
       )
+
+  pub cancel_goes_on : (p client : ℕ) (name : List ℕ) → GoesOn n start ms (Cancel p client name) ↔ (IsNode n p × IsKeptWaiting (resource_at (nodes p) name) client)
+  cancel_goes_on p client name =
+      let step = Cancel p client name in
+      let event = GivenUp client name in (
+        λ on. let within = fit_of step on in (within, (laws.may_cancel (nodes p) client name (consistent_at p within)).0 (allowed_by step p within event (at_node p event) on)),
+        λ (within, kept). on_by step p within event (at_node p event) (λ _ _. within) ((laws.may_cancel (nodes p) client name (consistent_at p within)).1 kept),
+      )
+
+  pub forget_goes_on : (p : ℕ) → GoesOn n start ms (Forget p) ↔ IsNode n p
+  forget_goes_on p = (
+    λ on. fit_of (Forget p) on,
+    λ within. on_by (Forget p) p within Forgot (at_node p Forgot) (λ _ _. within) (laws.may_forget (nodes p) (consistent_at p within)),
+  )
 
   pub deliver_goes_on : (message : Message) → GoesOn n start ms (Deliver message) ↔ IsUnderWay ms message
   deliver_goes_on message =

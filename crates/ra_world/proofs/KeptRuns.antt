@@ -128,14 +128,14 @@ module _
 
 module _
     (who : (old new : NodeState) (event : Event) (sends : List Message) (marks : List _) → NodeEvent old event sends marks new
-    → (new.me ≡ old.me) × (new.nodes ≡ old.nodes) × (new.start ≡ old.start))
+    → (new.me ≡ old.me) × (new.nodes ≡ old.nodes) × (old.start ≤ new.start))
   where
-    pub stays : (hs : List Happening) (old new : NodeState) → NodeEvents old hs new → (new.me ≡ old.me) × (new.nodes ≡ old.nodes) × (new.start ≡ old.start)
-    stays [] old new e = (ap (λ (s : NodeState). s.me) e, ap (λ (s : NodeState). s.nodes) e, ap (λ (s : NodeState). s.start) e)
+    pub stays : (hs : List Happening) (old new : NodeState) → NodeEvents old hs new → (new.me ≡ old.me) × (new.nodes ≡ old.nodes)
+    stays [] old new e = (ap (λ (s : NodeState). s.me) e, ap (λ (s : NodeState). s.nodes) e)
     stays (h ∷ hs) old new e =
         let one = who old e.0 h.event h.sends h.marks e.1 in
         let rest = stays hs e.0 new e.2 in
-        (rest.0 ∙ one.0, rest.1 ∙ one.1, rest.2 ∙ one.2)
+        (rest.0 ∙ one.0, rest.1 ∙ one.1)
 
     pub counts : (start : ℕ) (nodes : List NodeState) (left : List Message) (moves : List Move) (place : ℕ)
         → Keeps start nodes left moves → place < length nodes → (nodes_of nodes (place + 1)).nodes ≡ length nodes

@@ -136,3 +136,16 @@ pub less_alike : (sent taken left left' : List Message) → TakesEach sent taken
 less_alike sent [] left left' a b = a ∙ sym b
 less_alike sent (m ∷ taken) left left' a b =
     less_alike a.0 taken left left' a.2 (subst (λ (xs : List Message). TakesEach xs taken left') (takes_alike sent m b.0 a.0 b.1 a.1) b.2)
+
+-- what is among those that pass a test passes it
+pub contained_passes : {X : Type 0} (t : X → Bool) (xs : List X) (x : X) → Contains (filter t xs) x → t x ≡ true
+contained_passes t [] x at = absurd (omega (arith, at.1))
+contained_passes {X} t (y ∷ ys) x at =
+    elim (t y) as (λ b. t y ≡ b → Contains (cond b (y ∷ filter t ys) (filter t ys)) x → t x ≡ true) [
+      | true ↦ λ e there. here_or_later e there (λ later. contained_passes t ys x later)
+      | false ↦ λ _ there. contained_passes t ys x there
+    ] refl at
+  where
+    here_or_later : t y ≡ true → Contains (y ∷ filter t ys) x → (Contains (filter t ys) x → t x ≡ true) → t x ≡ true
+    here_or_later e (zero, lt, is) among = ap t (sym is) ∙ e
+    here_or_later e (suc k, lt, is) among = among (k, omega (arith, lt), is)

@@ -3,7 +3,7 @@ use Rattle.std.proofs.Common.{◌≡◌, ◌≢◌, ℕ, zero, suc, ◌<◌, ◌
 use Rattle.std.proofs.lemmas.List.{get_or_default}
 use Rattle.std.proofs.lemmas.List.Elements.{Contains-append_left, Contains-append_right, Contains-append_cases}
 use Rattle.ra_stamp.specs.declared.entry.Entry.{Entry}
-use Rattle.ra_stamp.specs.declared.entry.Mark.TheVariants.{Requested, Entered, Left}
+use Rattle.ra_stamp.specs.declared.entry.Mark.TheVariants.{Requested, Entered, Left, Withdrawn}
 use Rattle.ra_stamp.specs.Mode.{Conflict}
 use Rattle.ra_stamp.specs.Stamp.{IsEarlier}
 use Rattle.ra_node.specs.Resource.{Use}
@@ -263,6 +263,23 @@ module _ (n : ℕ) (u u' : ℕ → List ℕ → Use) (h h' : ℕ → List ℕ �
             holding = lost t.holding out.left granted_of Nobody alters tabled.holding refl (out.only only) out.others;
             waiting_known = tabled.waiting_known;
             holding_known = λ x at. tabled.holding_known x (still t.holding out.left out.loses x at);
+            reached = reached_more;
+          },
+        )
+
+    -- or it is withdrawn while it waits
+    pub withdrawn : u p r ≡ WaitsBy e → Alters u u' p r Nobody → (new : LockTable) × TableStep t (Withdrawn e) new × Tabled n u' h' new
+    withdrawn waits alters =
+        let only : of e.stamp.node e.name t.waiting ≡ e ∷ [] = (λ k. of (node_is k) (name_is k) t.waiting) ∙ tabled.waiting p r within ∙ ap waiting_of waits in
+        let there : Contains t.waiting e = of_contains e.stamp.node e.name t.waiting e (subst (λ (es : List Entry). Contains es e) (sym only) (0, omega arith, refl)) in
+        let out = takes_out t.waiting e there in (
+          record t { waiting = out.left },
+          (there, out.loses, refl, refl),
+          record {
+            waiting = lost t.waiting out.left waiting_of Nobody alters tabled.waiting refl (out.only only) out.others;
+            holding = stays t.holding granted_of Nobody alters tabled.holding (ap granted_of waits);
+            waiting_known = λ x at. tabled.waiting_known x (still t.waiting out.left out.loses x at);
+            holding_known = tabled.holding_known;
             reached = reached_more;
           },
         )

@@ -7,9 +7,9 @@ use Rattle.ra_stamp.specs.NodeId.{IsNodeNumber}
 use Rattle.ra_automaton.specs.State.{IsForNode}
 use Rattle.ra_node.specs.Node.{NodeState}
 use Rattle.ra_node.specs.Events.{Event, NodeEvent, IsForThisNode}
-use Rattle.ra_node.specs.Events.Event.{Ask as AskedFor, Leave as GivenBack, Receive as Received}
+use Rattle.ra_node.specs.Events.Event.{Ask as AskedFor, Leave as GivenBack, Cancel as GivenUp, Receive as Received, Forget as Forgot}
 use Rattle.ra_world.specs.declared.step.Step.{Step}
-use Rattle.ra_world.specs.declared.step.Step.TheVariants.{Ask, Leave, Deliver, Lose, Repeat}
+use Rattle.ra_world.specs.declared.step.Step.TheVariants.{Ask, Leave, Cancel, Deliver, Lose, Repeat, Forget}
 use Rattle.ra_world.specs.Below.{LawsBelow}
 use Rattle.ra_world.specs.Traffic.{Move}
 use Rattle.ra_world.specs.Run.{events_at, IsFit, IsRun}
@@ -48,6 +48,11 @@ module _ (laws : LawsBelow) (n start : ℕ) (count : IsNodeNumber n) (m : Move) 
   by_step P each (Leave node client name) is fit =
       let event = GivenBack client name in
       by_event P each node event fit tt (subst (λ (x : Step). events_at node x ≡ event ∷ []) (sym is) (at_node node event))
+  by_step P each (Cancel node client name) is fit =
+      let event = GivenUp client name in
+      by_event P each node event fit tt (subst (λ (x : Step). events_at node x ≡ event ∷ []) (sym is) (at_node node event))
+  by_step P each (Forget node) is fit =
+      by_event P each node Forgot fit tt (subst (λ (x : Step). events_at node x ≡ Forgot ∷ []) (sym is) (at_node node Forgot))
   by_step P each (Deliver message) is fit =
       let was = was_under_way laws n start ms just_before message fit in
       let p = to_of message in

@@ -5,15 +5,15 @@ use Rattle.std.proofs.lemmas.List.{append-nil}
 use Rattle.std.proofs.lemmas.Bool.Decides.{nat_tests}
 use Rattle.ra_stamp.specs.declared.message.Message.{Message}
 use Rattle.ra_stamp.specs.declared.entry.Mark.{Mark}
-use Rattle.ra_stamp.specs.declared.entry.Mark.TheVariants.{Requested, Entered, Left}
+use Rattle.ra_stamp.specs.declared.entry.Mark.TheVariants.{Requested, Entered, Left, Withdrawn}
 use Rattle.ra_stamp.specs.Message.{to_of}
 use Rattle.ra_node.specs.Events.{Event, Happening}
-use Rattle.ra_node.specs.Events.Event.{Ask as AskedFor, Leave as GivenBack, Receive as Received}
+use Rattle.ra_node.specs.Events.Event.{Ask as AskedFor, Leave as GivenBack, Cancel as GivenUp, Receive as Received, Forget as Forgot}
 use Rattle.ra_world.specs.declared.step.Step.{Step}
-use Rattle.ra_world.specs.declared.step.Step.TheVariants.{Ask, Leave, Deliver, Lose, Repeat}
+use Rattle.ra_world.specs.declared.step.Step.TheVariants.{Ask, Leave, Cancel, Deliver, Lose, Repeat, Forget}
 use Rattle.ra_world.specs.Traffic.{Move, sent_by, put_in, put_by, taken_in, taken_by, lost_in, lost_by, repeated_in, repeated_by}
 use Rattle.ra_world.specs.Run.{events_at, happened_at, marks_of, AreFit}
-use Rattle.ra_world.specs.Quiet.{requests_in}
+use Rattle.ra_world.specs.Quiet.{requests_in, withdrawn_in}
 use Rattle.ra_automaton.proofs.Apart.{cases_same}
 use Rattle.ra_world.proofs.Lists.{none_some}
 
@@ -99,61 +99,89 @@ one_node node p i e event here apart = elim (cases_same node p) [
 pub only_at : (p i : ℕ) (step : Step) (event : Event) → events_at p step ≡ event ∷ [] → i ≢ p → events_at i step ≡ []
 only_at p i (Ask node client name mode) event here apart = one_node node p i (AskedFor client name mode) event here apart
 only_at p i (Leave node client name) event here apart = one_node node p i (GivenBack client name) event here apart
+only_at p i (Cancel node client name) event here apart = one_node node p i (GivenUp client name) event here apart
 only_at p i (Deliver message) event here apart = one_node (to_of message) p i (Received message) event here apart
 only_at p i (Lose message) event here apart = refl
 only_at p i (Repeat message) event here apart = refl
+only_at p i (Forget node) event here apart = one_node node p i Forgot event here apart
 
 -- a step that is an event puts no copy under way
 pub event_copies_nothing : (p : ℕ) (step : Step) (event : Event) → events_at p step ≡ event ∷ [] → repeated_in step ≡ []
 event_copies_nothing p (Ask node client name mode) event here = refl
 event_copies_nothing p (Leave node client name) event here = refl
+event_copies_nothing p (Cancel node client name) event here = refl
 event_copies_nothing p (Deliver message) event here = refl
 event_copies_nothing p (Lose message) event here = refl
 event_copies_nothing p (Repeat message) event here = absurd (none_some here)
+event_copies_nothing p (Forget node) event here = refl
 
 -- and loses nothing
 pub event_loses_nothing : (p : ℕ) (step : Step) (event : Event) → events_at p step ≡ event ∷ [] → lost_in step ≡ []
 event_loses_nothing p (Ask node client name mode) event here = refl
 event_loses_nothing p (Leave node client name) event here = refl
+event_loses_nothing p (Cancel node client name) event here = refl
 event_loses_nothing p (Deliver message) event here = refl
 event_loses_nothing p (Lose message) event here = absurd (none_some here)
 event_loses_nothing p (Repeat message) event here = refl
+event_loses_nothing p (Forget node) event here = refl
 
--- ---- Which messages may be lost or repeated
+-- ---- Which messages may be lost or repeated, and whether requests may be withdrawn
 
 -- messages are lost only if Lossy is so, and repeated only if Copied is so
-abbrev pub Allows : Type 0 → Type 0 → Step → Type 0
-Allows Lossy Copied (Ask node client name mode) = Unit {0}
-Allows Lossy Copied (Leave node client name) = Unit {0}
-Allows Lossy Copied (Deliver message) = Unit {0}
-Allows Lossy Copied (Lose message) = Lossy
-Allows Lossy Copied (Repeat message) = Copied
+abbrev pub AllowsStep : Type 0 → Type 0 → Step → Type 0
+AllowsStep Lossy Copied (Ask node client name mode) = Unit {0}
+AllowsStep Lossy Copied (Leave node client name) = Unit {0}
+AllowsStep Lossy Copied (Cancel node client name) = Unit {0}
+AllowsStep Lossy Copied (Deliver message) = Unit {0}
+AllowsStep Lossy Copied (Lose message) = Lossy
+AllowsStep Lossy Copied (Repeat message) = Copied
+AllowsStep Lossy Copied (Forget node) = Unit {0}
+
+-- and a request is withdrawn only if Copied is so, too
+abbrev pub Allows : Type 0 → Type 0 → Step → List Mark → Type 0
+Allows Lossy Copied step marks = AllowsStep Lossy Copied step × ((withdrawn_in marks ≡ 0) ⊎ Copied)
 
 abbrev pub AllowsAll : Type 0 → Type 0 → List Move → Type 0
 AllowsAll Lossy Copied [] = Unit {0}
-AllowsAll Lossy Copied (move ∷ moves) = Allows Lossy Copied move.step × AllowsAll Lossy Copied moves
+AllowsAll Lossy Copied (move ∷ moves) = Allows Lossy Copied move.step move.marks × AllowsAll Lossy Copied moves
+
+pub withdrawn_both : (xs ys : List Mark) → withdrawn_in (xs ++ ys) ≡ withdrawn_in xs + withdrawn_in ys
+withdrawn_both [] ys = omega arith
+withdrawn_both (Requested e ∷ xs) ys = withdrawn_both xs ys
+withdrawn_both (Entered e ∷ xs) ys = withdrawn_both xs ys
+withdrawn_both (Left e ∷ xs) ys = withdrawn_both xs ys
+withdrawn_both (Withdrawn e ∷ xs) ys = omega (arith, withdrawn_both xs ys)
 
 allows_one : {Lossy Copied : Type 0} (step : Step) (losses copies : List Message) → (lost_in step ++ losses ≡ []) ⊎ Lossy → (repeated_in step ++ copies ≡ []) ⊎ Copied
-    → Allows Lossy Copied step × ((losses ≡ []) ⊎ Lossy) × ((copies ≡ []) ⊎ Copied)
+    → AllowsStep Lossy Copied step × ((losses ≡ []) ⊎ Lossy) × ((copies ≡ []) ⊎ Copied)
 allows_one (Ask node client name mode) losses copies lost repeated = (tt, lost, repeated)
 allows_one (Leave node client name) losses copies lost repeated = (tt, lost, repeated)
+allows_one (Cancel node client name) losses copies lost repeated = (tt, lost, repeated)
 allows_one (Deliver message) losses copies lost repeated = (tt, lost, repeated)
 allows_one (Lose message) losses copies lost repeated = elim lost [ inl none ↦ absurd (none_some (sym none)) | inr lossy ↦ (lossy, inr lossy, repeated) ]
 allows_one (Repeat message) losses copies lost repeated = elim repeated [ inl none ↦ absurd (none_some (sym none)) | inr copied ↦ (copied, lost, inr copied) ]
+allows_one (Forget node) losses copies lost repeated = (tt, lost, repeated)
 
-pub allows_moves : {Lossy Copied : Type 0} (moves : List Move) → (lost_by moves ≡ []) ⊎ Lossy → (repeated_by moves ≡ []) ⊎ Copied → AllowsAll Lossy Copied moves
-allows_moves [] lost repeated = tt
-allows_moves (move ∷ moves) lost repeated =
+none_withdrawn : {Copied : Type 0} (here later : List Mark) → (withdrawn_in (here ++ later) ≡ 0) ⊎ Copied → ((withdrawn_in here ≡ 0) ⊎ Copied) × ((withdrawn_in later ≡ 0) ⊎ Copied)
+none_withdrawn here later none = elim none [
+  | inl zero ↦ (inl (omega (arith, zero, withdrawn_both here later)), inl (omega (arith, zero, withdrawn_both here later)))
+  | inr copied ↦ (inr copied, inr copied)
+]
+
+pub allows_moves : {Lossy Copied : Type 0} (moves : List Move) → (lost_by moves ≡ []) ⊎ Lossy → (repeated_by moves ≡ []) ⊎ Copied → (withdrawn_in (marks_of moves) ≡ 0) ⊎ Copied → AllowsAll Lossy Copied moves
+allows_moves [] lost repeated withdrawn = tt
+allows_moves (move ∷ moves) lost repeated withdrawn =
     let one = allows_one move.step (lost_by moves) (repeated_by moves) lost repeated in
-    (one.0, allows_moves moves one.1 one.2)
+    let marks = none_withdrawn move.marks (marks_of moves) withdrawn in
+    ((one.0, marks.0), allows_moves moves one.1 one.2 marks.1)
 
-pub allows_more : (Lossy Copied : Type 0) (moves : List Move) (m : Move) → AllowsAll Lossy Copied moves → Allows Lossy Copied m.step → AllowsAll Lossy Copied (moves ++ m ∷ [])
+pub allows_more : (Lossy Copied : Type 0) (moves : List Move) (m : Move) → AllowsAll Lossy Copied moves → Allows Lossy Copied m.step m.marks → AllowsAll Lossy Copied (moves ++ m ∷ [])
 allows_more Lossy Copied [] m before may = (may, tt)
 allows_more Lossy Copied (x ∷ moves) m before may = (before.0, allows_more Lossy Copied moves m before.1 may)
 
--- all may be lost and repeated
+-- all may be lost and repeated, and all requests withdrawn
 pub allows_all : (moves : List Move) → AllowsAll (Unit {0}) (Unit {0}) moves
-allows_all moves = allows_moves moves (inr tt) (inr tt)
+allows_all moves = allows_moves moves (inr tt) (inr tt) (inr tt)
 
 -- ---- How many requests were made
 
@@ -162,3 +190,4 @@ requests_both [] ys = omega arith
 requests_both (Requested e ∷ xs) ys = omega (arith, requests_both xs ys)
 requests_both (Entered e ∷ xs) ys = requests_both xs ys
 requests_both (Left e ∷ xs) ys = requests_both xs ys
+requests_both (Withdrawn e ∷ xs) ys = requests_both xs ys

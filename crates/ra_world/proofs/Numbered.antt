@@ -3,13 +3,13 @@ use Rattle.std.proofs.Common.{ℕ, List, [], ◌∷◌, ◌++◌, All}
 use Rattle.std.proofs.lemmas.List.Elements.{All-nil, All-cons, All-append, All-weaker}
 use Rattle.ra_stamp.specs.declared.message.Message.{Message}
 use Rattle.ra_stamp.specs.declared.entry.Mark.{Mark}
-use Rattle.ra_stamp.specs.declared.entry.Mark.TheVariants.{Requested, Entered, Left}
+use Rattle.ra_stamp.specs.declared.entry.Mark.TheVariants.{Requested, Entered, Left, Withdrawn}
 use Rattle.ra_stamp.specs.NodeId.{IsNodeNumber}
 use Rattle.ra_node.specs.Node.{NodeState, IsConsistentNode}
 use Rattle.ra_node.specs.Events.{Event, name_of_event, NodeEvent, IsForThisNode}
 use Rattle.ra_node.specs.Carried.{IsMark}
 use Rattle.ra_world.specs.declared.step.Step.{Step}
-use Rattle.ra_world.specs.declared.step.Step.TheVariants.{Ask, Leave, Deliver, Lose, Repeat}
+use Rattle.ra_world.specs.declared.step.Step.TheVariants.{Ask, Leave, Cancel, Deliver, Lose, Repeat, Forget}
 use Rattle.ra_world.specs.Below.{LawsBelow}
 use Rattle.ra_world.specs.Traffic.{Move, taken_in, taken_by}
 use Rattle.ra_world.specs.Numbers.{IsNumberedMark, IsNumberedMessage}
@@ -21,6 +21,7 @@ number_of : (me : ℕ) (name : List ℕ) (mark : Mark) → IsMark me name mark �
 number_of me name (Requested entry) is = is.numbered
 number_of me name (Entered entry) is = is.numbered
 number_of me name (Left entry) is = is.numbered
+number_of me name (Withdrawn entry) is = is.numbered
 
 -- what a node's events mark
 abbrev pub MarksOfNodes : Type 0
@@ -33,6 +34,8 @@ module _ (laws : LawsBelow) (marks_law : MarksOfNodes) (n start : ℕ) (count : 
       → All IsNumberedMessage (taken_in step)
   taken_numbered ms sends marks before (Ask node client name mode) fit = All-nil IsNumberedMessage
   taken_numbered ms sends marks before (Leave node client name) fit = All-nil IsNumberedMessage
+  taken_numbered ms sends marks before (Cancel node client name) fit = All-nil IsNumberedMessage
+  taken_numbered ms sends marks before (Forget node) fit = All-nil IsNumberedMessage
   taken_numbered ms sends marks before (Deliver message) fit =
       All-cons IsNumberedMessage message [] (was_under_way laws n start ms before message fit).traffic.numbered (All-nil IsNumberedMessage)
   taken_numbered ms sends marks before (Lose message) fit =

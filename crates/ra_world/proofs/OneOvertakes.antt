@@ -309,6 +309,7 @@ overtakes = record {
   excludes = (refl, exclusive_excludes);
   enters = refl;
   not_yet = λ earlier lt at. omega (arith, lt);
+  not_withdrawn = λ earlier lt at. omega (arith, lt);
 }
 
 pub one_may_overtake : (before later : List Move) × (table : LockTable) × (e : Entry) × (f : Entry) × IsRun 2 0 (before ++ later)

@@ -19,7 +19,7 @@ use Rattle.ra_world.specs.declared.step.Step.TheVariants.{Deliver}
 use Rattle.ra_world.specs.Below.{LawsBelow}
 use Rattle.ra_world.specs.Traffic.{Move, LeavesUnderWay, IsUnderWay, sent_by, repeated_by}
 use Rattle.ra_world.specs.Run.{happened_at, marks_of, IsFit, IsRun, EndsWith, waiting_at_all}
-use Rattle.ra_world.specs.Quiet.{requests_in}
+use Rattle.ra_world.specs.Quiet.{requests_in, withdrawn_in}
 use Rattle.ra_world.proofs.Lists.{filter_taken}
 use Rattle.ra_world.proofs.Moves.{allows_all, allows_moves, fits_split}
 use Rattle.ra_world.proofs.Dialogs.{belongs, between, belongs_at}
@@ -86,11 +86,11 @@ among_them moves left message less = (λ was. subst (λ (xs : List Message). Con
 
 -- ---- No REPLY that is delivered is a stray
 
-pub reply_awaited : LawsBelow → (n start : ℕ) (prefix suffix : List Move) (move : Move) (from to : ℕ) (name : List ℕ) (seq : ℕ) (node : NodeState) → IsNodeNumber n → IsRun n start (prefix ++ move ∷ suffix) → repeated_by prefix ≡ []
+pub reply_awaited : LawsBelow → (n start : ℕ) (prefix suffix : List Move) (move : Move) (from to : ℕ) (name : List ℕ) (seq : ℕ) (node : NodeState) → IsNodeNumber n → IsRun n start (prefix ++ move ∷ suffix) → repeated_by prefix ≡ [] → withdrawn_in (marks_of prefix) ≡ 0
     → move.step ≡ Deliver (Reply from to name seq) → NodeEvents (opening_node to n start) (happened_at to prefix) node → (mode : Mode) × Awaits (resource_at node name).state from seq mode
-reply_awaited laws n start prefix suffix move from to name seq node count run unrepeated is end =
+reply_awaited laws n start prefix suffix move from to name seq node count run unrepeated unwithdrawn is end =
     let message = Reply from to name seq in
-    let before : Reached (Unit {0}) ⊥ n start prefix = every_run laws n start prefix (allows_moves prefix (inr tt) (inl unrepeated)) count (prefixes laws.splits n start (move ∷ suffix) prefix run) in
+    let before : Reached (Unit {0}) ⊥ n start prefix = every_run laws n start prefix (allows_moves prefix (inr tt) (inl unrepeated) (inl unwithdrawn)) count (prefixes laws.splits n start (move ∷ suffix) prefix run) in
     let fit = subst (λ (step : Step). IsFit n prefix step move.sends move.marks) is (fits_split n [] prefix (move ∷ suffix) run.each_fits).1.0 in
     let was = was_under_way laws n start prefix before message fit in
     let sender = was.traffic.from in

@@ -5,7 +5,7 @@ use Rattle.std.proofs.lemmas.Bool.{cases_lt}
 use Rattle.std.proofs.lemmas.List.Elements.{All-head, All-tail, All-contains}
 use Rattle.ra_stamp.specs.declared.entry.Entry.{Entry}
 use Rattle.ra_stamp.specs.declared.entry.Mark.{Mark}
-use Rattle.ra_stamp.specs.declared.entry.Mark.TheVariants.{Requested, Entered, Left}
+use Rattle.ra_stamp.specs.declared.entry.Mark.TheVariants.{Requested, Entered, Left, Withdrawn}
 use Rattle.ra_stamp.specs.declared.mode.Mode.{Mode}
 use Rattle.ra_stamp.specs.Mode.{Conflict}
 use Rattle.ra_stamp.specs.Stamp.{IsEarlier}
@@ -21,20 +21,26 @@ abbrev pub IsAbove : (ℕ → Type 0) → Entry → Mark → Type 0
 IsAbove At e (Requested f) = At f.stamp.node → f.name ≡ e.name → e.stamp.seq < f.stamp.seq
 IsAbove At e (Entered f) = Unit {0}
 IsAbove At e (Left f) = Unit {0}
+IsAbove At e (Withdrawn f) = Unit {0}
 
 pub steps_sound : (marks : List Mark) (old new : LockTable) → TableSteps old marks new → IsSoundTable old → IsSoundTable new
 steps_sound [] old new steps sound = subst IsSoundTable (sym steps) sound
 steps_sound (m ∷ marks) old new steps sound = steps_sound marks steps.0 new steps.2 (step_sound old steps.0 m steps.1 sound)
 
--- an entry waits on until it enters
-waits_on : (e : Entry) (old new : LockTable) (m : Mark) → TableStep old m new → (m ≡ Entered e → ⊥) → Contains old.waiting e → Contains new.waiting e
-waits_on e old new (Requested x) step other at = rw step.1.3 (Contains-put step.1.0 step.1.1 x e (subst (λ (w : List Entry). Contains w e) step.1.2 at))
-waits_on e old new (Entered x) step other at =
+-- an entry waits on until it enters or is withdrawn
+waits_on : (e : Entry) (old new : LockTable) (m : Mark) → TableStep old m new → (m ≡ Entered e → ⊥) → (m ≡ Withdrawn e → ⊥) → Contains old.waiting e → Contains new.waiting e
+waits_on e old new (Requested x) step other kept at = rw step.1.3 (Contains-put step.1.0 step.1.1 x e (subst (λ (w : List Entry). Contains w e) step.1.2 at))
+waits_on e old new (Entered x) step other kept at =
     elim (Contains-cases step.1.0 step.1.1 x e (subst (λ (w : List Entry). Contains w e) step.1.3 at)) [
       | inl same ↦ absurd (other (ap (λ (y : Entry). Entered y) same))
       | inr rest ↦ rw step.1.2 rest
     ]
-waits_on e old new (Left x) step other at = rw step.1 at
+waits_on e old new (Left x) step other kept at = rw step.1 at
+waits_on e old new (Withdrawn x) step other kept at =
+    elim (Contains-cases step.1.0 step.1.1 x e (subst (λ (w : List Entry). Contains w e) step.1.3 at)) [
+      | inl same ↦ absurd (kept (ap (λ (y : Entry). Withdrawn y) same))
+      | inr rest ↦ rw step.1.2 rest
+    ]
 
 -- one that waits was just requested, or waited before
 waited_before : (f : Entry) (old new : LockTable) (m : Mark) → TableStep old m new → Contains new.waiting f → (m ≡ Requested f) ⊎ Contains old.waiting f
@@ -45,6 +51,7 @@ waited_before f old new (Requested x) step at =
     ]
 waited_before f old new (Entered x) step at = inr (rw step.1.3 (Contains-put step.1.0 step.1.1 x f (subst (λ (w : List Entry). Contains w f) step.1.2 at)))
 waited_before f old new (Left x) step at = inr (rw (← step.1) at)
+waited_before f old new (Withdrawn x) step at = inr (rw step.1.3 (Contains-put step.1.0 step.1.1 x f (subst (λ (w : List Entry). Contains w f) step.1.2 at)))
 
 -- two entries of one node on one name that wait are one
 one_of_node : (xs : List Entry) (a b : Entry) → Apart NotOfOneNode xs → Contains xs a → Contains xs b → SharesNodeAndName a b → a ≡ b
@@ -66,7 +73,7 @@ never_earlier a b earlier above = elim earlier [ inl below ↦ omega (arith, bel
 
 later_on : (m : Mark) (ms : List Mark) (place : ℕ) (f e : Entry) → Overtakes (m ∷ ms) (suc place) f e → Overtakes ms place f e
 later_on m ms place f e over =
-    record { other = over.other; excludes = over.excludes; enters = over.enters; not_yet = λ earlier lt at. over.not_yet (suc earlier) (omega (arith, lt)) at }
+    record { other = over.other; excludes = over.excludes; enters = over.enters; not_yet = λ earlier lt at. over.not_yet (suc earlier) (omega (arith, lt)) at; not_withdrawn = λ earlier lt at. over.not_withdrawn (suc earlier) (omega (arith, lt)) at }
 
 module _ (flips : (a b : Mode) → Conflict a b → Conflict b a) (e : Entry) where
   -- two that wait and exclude each other are of different nodes
@@ -85,7 +92,7 @@ module _ (flips : (a b : Mode) → Conflict a b → Conflict b a) (e : Entry) wh
       ]
 
   still_waits : (m : Mark) (ms : List Mark) (t next : LockTable) (place : ℕ) (f : Entry) → TableStep t m next → Contains t.waiting e → Overtakes (m ∷ ms) (suc place) f e → Contains next.waiting e
-  still_waits m ms t next place f step waits over = waits_on e t next m step (λ is. over.not_yet 0 (omega arith) (ap (λ (x : Mark). Some x) is)) waits
+  still_waits m ms t next place f step waits over = waits_on e t next m step (λ is. over.not_yet 0 (omega arith) (ap (λ (x : Mark). Some x) is)) (λ is. over.not_withdrawn 0 (omega arith) (ap (λ (x : Mark). Some x) is)) waits
 
   -- whoever overtakes is earlier, and of another node
   pub overtakes_earlier : (marks : List Mark) (t new : LockTable) → TableSteps t marks new → IsSoundTable t → Contains t.waiting e

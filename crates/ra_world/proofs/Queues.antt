@@ -9,12 +9,16 @@ use Rattle.ra_stamp.specs.declared.message.Message.{Message}
 use Rattle.ra_stamp.specs.declared.entry.Mark.{Mark}
 use Rattle.ra_stamp.specs.Message.{to_of}
 use Rattle.ra_node.specs.Resource.{Resource}
-use Rattle.ra_node.specs.Turns.{AskTurn, LeaveTurn}
+use Rattle.ra_stamp.specs.declared.entry.Entry.{Entry}
+use Rattle.ra_stamp.specs.declared.entry.Mark.TheVariants.{Left, Withdrawn}
+use Rattle.ra_node.specs.Turns.{AskTurn, Leaves, Withdraws, EndTurn, LeaveTurn, CancelTurn}
+use Rattle.ra_node.proofs.Endings.{AreEnded, leaves_ended, withdraws_ended}
+use Rattle.ra_node.proofs.Forgetting.{NothingElse, any_ones, slots_of, total_stays, queue_unmoved}
 use Rattle.ra_node.specs.Node.{NodeState, opening_node, resource_at, queued_count}
 use Rattle.ra_node.specs.Events.{Event, Happening, NodeEvent, NodeEvents}
-use Rattle.ra_node.specs.Events.Event.{Ask as AskedFor, Leave as GivenBack, Receive as Received}
+use Rattle.ra_node.specs.Events.Event.{Ask as AskedFor, Leave as GivenBack, Cancel as GivenUp, Receive as Received, Forget as Forgot}
 use Rattle.ra_world.specs.declared.step.Step.{Step}
-use Rattle.ra_world.specs.declared.step.Step.TheVariants.{Ask, Leave, Deliver, Lose, Repeat}
+use Rattle.ra_world.specs.declared.step.Step.TheVariants.{Ask, Leave, Cancel, Deliver, Lose, Repeat, Forget}
 use Rattle.ra_world.specs.Traffic.{Move}
 use Rattle.ra_world.specs.Run.{events_at, happened_at}
 use Rattle.ra_world.specs.Keeping.{nodes_of, Keeps}
@@ -50,12 +54,24 @@ ask_queues old client mode sends marks new turn =
       | inr queues ↦ omega (arith, ap (λ (r : Resource). length r.queue) queues.new_is, length-append old.queue (record { client = client; mode = mode } ∷ []))
     ]
 
+end_queues : (Ends : Entry → List Message → Resource → Type 0) (mark : Entry → Mark) (old : Resource) → AreEnded old Ends → (sends : List Message) (marks : List Mark) (new : Resource)
+    → EndTurn Ends mark old sends marks new → length new.queue ≤ length old.queue
+end_queues Ends mark old ended sends marks new turn =
+    elim turn [
+      | inl nobody ↦ omega (arith, ap length (ended nobody.entry sends new nobody.ends).queue_is)
+      | inr next ↦ omega (arith, ap length next.queue_was, ap length next.asks.queue_is)
+    ]
+
 leave_queues : (old : Resource) (client : ℕ) (sends : List Message) (marks : List Mark) (new : Resource)
     → LeaveTurn old client sends marks new → length new.queue ≤ length old.queue + 1
-leave_queues old client sends marks new turn =
+leave_queues old client sends marks new turn = omega (arith, end_queues (Leaves old client) Left old (leaves_ended old client) sends marks new turn)
+
+cancel_queues : (old : Resource) (client : ℕ) (sends : List Message) (marks : List Mark) (new : Resource)
+    → CancelTurn old client sends marks new → length new.queue ≤ length old.queue + 1
+cancel_queues old client sends marks new turn =
     elim turn [
-      | inl nobody ↦ omega (arith, ap length nobody.leaves.queue_is)
-      | inr next ↦ omega (arith, ap length next.queue_was, ap length next.asks.queue_is)
+      | inl goes ↦ omega (arith, ap (λ (r : Resource). length r.queue) goes.new_is, ap length goes.queue_was, length-append goes.before goes.after, length-append goes.before (goes.gone ∷ goes.after))
+      | inr ends ↦ omega (arith, end_queues (Withdraws old client) Withdrawn old (withdraws_ended old client) sends marks new ends)
     ]
 
 more_at : (old new : NodeState) (name : List ℕ) (r : Resource) → length r.queue ≤ length (resource_at old name).queue + 1
@@ -69,6 +85,9 @@ event_queues old new (AskedFor client name mode) sends marks e =
     more_at old new name e.resource (ask_queues (resource_at old name) client mode sends marks e.resource e.turn) (inr e.new_is)
 event_queues old new (GivenBack client name) sends marks e =
     more_at old new name e.resource (leave_queues (resource_at old name) client sends marks e.resource e.turn) (inr e.new_is)
+event_queues old new (GivenUp client name) sends marks e =
+    more_at old new name e.resource (cancel_queues (resource_at old name) client sends marks e.resource e.turn) (inr e.new_is)
+event_queues old new Forgot sends marks e = omega (arith, total_stays NothingElse (λ r. length r.queue) queue_unmoved old new sends marks e (any_ones (slots_of old)))
 event_queues old new (Received message) sends marks e =
     more_at old new _ e.resource (omega (arith, ap length e.turn.queue_is)) (receive_updates old new message sends marks e)
 
@@ -108,6 +127,8 @@ nowhere step none first (suc n) =
 one_event : (step : Step) (first n : ℕ) → sum_by (λ i. length (events_at i step)) (range_with_len first n) ≤ 1
 one_event (Ask node client name mode) first n = one_at_most node (AskedFor client name mode) first n
 one_event (Leave node client name) first n = one_at_most node (GivenBack client name) first n
+one_event (Cancel node client name) first n = one_at_most node (GivenUp client name) first n
+one_event (Forget node) first n = one_at_most node Forgot first n
 one_event (Deliver message) first n = one_at_most (to_of message) (Received message) first n
 one_event (Lose message) first n = omega (arith, nowhere (Lose message) (λ _. refl) first n)
 one_event (Repeat message) first n = omega (arith, nowhere (Repeat message) (λ _. refl) first n)

@@ -9,7 +9,7 @@ use Rattle.ra_table.specs.Laws.{SameEntries}
 use Rattle.ra_world.specs.Below.{LawsBelow}
 use Rattle.ra_world.specs.Traffic.{Move, repeated_by}
 use Rattle.ra_world.specs.Run.{IsRun, marks_of}
-use Rattle.ra_world.specs.Quiet.{IsQuiet, IsBlocked, MeetsMessageCount}
+use Rattle.ra_world.specs.Quiet.{IsQuiet, IsBlocked, MeetsMessageCount, withdrawn_in}
 use Rattle.ra_world.proofs.Moves.{allows_moves}
 use Rattle.ra_world.proofs.Cluster.{Invariant}
 use Rattle.ra_world.proofs.Balance.{asking}
@@ -22,7 +22,7 @@ module _ (laws : LawsBelow) (n start : ℕ) (moves : List Move) (count : IsNodeN
     (same_tables : (a b : LockTable) → TableRun (marks_of moves) a → TableRun (marks_of moves) b → SameEntries a b) where
   -- whatever was repeated
   reached : Reached ⊥ (Unit {0}) n start moves
-  reached = every_run laws n start moves (allows_moves moves (inl quiet.none_lost) (inr tt)) count run
+  reached = every_run laws n start moves (allows_moves moves (inl quiet.none_lost) (inr tt) (inr tt)) count run
 
   nothing_under_way : reached.bag ≡ []
   nothing_under_way = one_list moves reached.bag [] reached.under_way quiet.none_under_way
@@ -41,10 +41,10 @@ module _ (laws : LawsBelow) (n start : ℕ) (moves : List Move) (count : IsNodeN
       still : (P : Entry → Type 0) (old new : List Entry) → ((x : Entry) → Contains old x → Contains new x) → Any P old → Any P new
       still P old new more (k, x, lt, is, p) = let at = more x (k, lt, is) in (at.0, x, at.1, at.2, p)
 
-  -- if nothing was repeated
-  module _ (unrepeated : repeated_by moves ≡ []) where
+  -- if nothing was repeated or withdrawn
+  module _ (unrepeated : repeated_by moves ≡ []) (unwithdrawn : withdrawn_in (marks_of moves) ≡ 0) where
     exactly : Reached ⊥ ⊥ n start moves
-    exactly = every_run laws n start moves (allows_moves moves (inl quiet.none_lost) (inl unrepeated)) count run
+    exactly = every_run laws n start moves (allows_moves moves (inl quiet.none_lost) (inl unrepeated) (inl unwithdrawn)) count run
 
     nothing_left : exactly.bag ≡ []
     nothing_left = one_list moves exactly.bag [] exactly.under_way quiet.none_under_way

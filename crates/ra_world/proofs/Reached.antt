@@ -18,7 +18,7 @@ use Rattle.ra_node.proofs.Lookups.{nothing_met, same_or_apart}
 use Rattle.ra_node.proofs.Updates.{IsUpdate, event_updates, updated_here}
 use Rattle.ra_node.specs.Resource.{Resource, unmet, use_of, waiting_at}
 use Rattle.ra_node.specs.Node.{NodeState, opening_node, resource_at, waiting_count}
-use Rattle.ra_node.specs.Events.{Event, Happening, name_of_event, NodeEvent, NodeEvents, IsForThisNode}
+use Rattle.ra_node.specs.Events.{Event, Happening, IsNamed, name_of_event, NodeEvent, NodeEvents, IsForThisNode}
 use Rattle.ra_node.specs.Events.Event.{Receive as Received}
 use Rattle.ra_node.specs.Carried.{IsSend, MarksLead}
 use Rattle.ra_table.specs.Table.{LockTable, empty_table, TableSteps, TableRun}
@@ -52,12 +52,14 @@ pub record Reached (Lossy Copied : Type 0) (n start : ℕ) (moves : List Move) :
   pub joined : ℕ
   pub none_joined : (Copied → ⊥) → joined ≡ 0
   pub balance : length (sent_by moves) + asking bag + asking (lost_by moves) + over owed nodes 1 n + joined ≡ 2 * (n - 1) * requests_in (marks_of moves) + asking (repeated_by moves)
+  -- the number with which names begin that the node has not met, or has forgotten
+  pub starts : (i : ℕ) → IsNode n i → (nodes i).start ≤ start + requests_in (marks_of moves)
   pub highest : (i : ℕ) → IsNode n i → (r : List ℕ) → (resource_at (nodes i) r).state.highest ≤ start + requests_in (marks_of moves)
   pub raising : All (RaisesTo (start + requests_in (marks_of moves))) bag
 
 -- ---- At the start
 
-owes_nowhere : (me nodes : ℕ) (name : List ℕ) (start : ℕ) → owed (unmet me nodes name start) ≡ 0
+pub owes_nowhere : (me nodes : ℕ) (name : List ℕ) (start : ℕ) → owed (unmet me nodes name start) ≡ 0
 owes_nowhere me nodes name start = finmap.len-empty nat_cmp ℕ
 
 pub waits_nowhere : (me nodes : ℕ) (name : List ℕ) (start : ℕ) → waiting_at (unmet me nodes name start) ≡ 0
@@ -114,6 +116,7 @@ opening laws Lossy Copied n start count =
       joined = 0;
       none_joined = λ _. refl;
       balance = omega (arith, none_counted owed owes_nowhere nodes 1 n (λ i. refl));
+      starts = λ i at. omega arith;
       highest = λ i at r. omega (arith, ap (λ (x : Resource). x.state.highest) (nothing_met i n start r));
       raising = All-nil (RaisesTo (start + 0));
     }
@@ -157,7 +160,7 @@ module _ (laws : LawsBelow) {Lossy Copied : Type 0} (n start : ℕ) (ms : List M
       let one = subst (λ (hs : List Happening). NodeEvents parts.0 hs end.0) (happens_here p m event here) parts.2 in
       (one.0, subst (λ (x : NodeState). NodeEvent x event m.sends m.marks one.0) same one.1)
 
-  module _ (new : NodeState) (happened : NodeEvent (before.nodes p) event m.sends m.marks new) (for : IsForThisNode (before.nodes p) event) (numbered : (message : Message) → event ≡ Received message → 1 ≤ seq_of message) where
+  module _ (new : NodeState) (happened : NodeEvent (before.nodes p) event m.sends m.marks new) (for : IsForThisNode (before.nodes p) event) (numbered : (message : Message) → event ≡ Received message → 1 ≤ seq_of message) (named : IsNamed event) where
     abbrev pub name : List ℕ
     name = name_of_event event
 
@@ -169,7 +172,7 @@ module _ (laws : LawsBelow) {Lossy Copied : Type 0} (n start : ℕ) (ms : List M
           within = within;
           turned = put_node before.nodes p new;
           there = record { consistent = laws.consistent (before.nodes p) new event m.sends m.marks there.consistent for happened; me_is = same.0 ∙ there.me_is; nodes_is = same.1 ∙ there.nodes_is };
-          others = λ q apart. laws.other_names (before.nodes p) new event m.sends m.marks q happened apart;
+          others = λ q apart. laws.other_names (before.nodes p) new event m.sends m.marks q happened named apart;
           sent = subst (λ (k : ℕ). All (IsSend p k name) m.sends) there.nodes_is
               (subst (λ (k : ℕ). All (IsSend k (before.nodes p).nodes name) m.sends) there.me_is (laws.own_sends (before.nodes p) new event m.sends m.marks there.consistent for happened));
           numbered = laws.numbered (before.nodes p) new event m.sends m.marks there.consistent for happened numbered;
@@ -179,7 +182,7 @@ module _ (laws : LawsBelow) {Lossy Copied : Type 0} (n start : ℕ) (ms : List M
     leads = laws.one_request (before.nodes p) new event m.sends m.marks happened
 
     changed : (x : Resource) × IsUpdate (before.nodes p) name x new
-    changed = event_updates (before.nodes p) new event m.sends m.marks happened
+    changed = event_updates (before.nodes p) new event m.sends m.marks happened named
 
     resource_is : resource_at new name ≡ changed.0
     resource_is = updated_here (before.nodes p) new name changed.0 changed.1
@@ -210,6 +213,14 @@ module _ (laws : LawsBelow) {Lossy Copied : Type 0} (n start : ℕ) (ms : List M
 
     requests_now : requests_in (marks_of (ms ++ m ∷ [])) ≡ requests_in (marks_of ms) + requests_in m.marks
     requests_now = ap requests_in (marks_more ms m) ∙ requests_both (marks_of ms) m.marks
+
+    starts_after : (i : ℕ) → IsNode n i → (with_node before.nodes p new i).start ≤ start + requests_in (marks_of (ms ++ m ∷ []))
+    starts_after i at = elim (cases_same i p) [
+      | inr apart ↦ omega (arith, requests_now, before.starts i at, ap (λ (x : NodeState). x.start) (went.turned.there i apart))
+      | inl is ↦
+          let now = ap (λ (x : NodeState). x.start) (ap (with_node before.nodes p new) is ∙ went.turned.here) in
+          omega (arith, requests_now, now, before.starts p within, laws.same_start (before.nodes p) new event m.sends m.marks happened named)
+    ]
 
     highest_after : Rises (resource_at new name) m.sends (start + requests_in (marks_of ms) + requests_in m.marks) → (i : ℕ) → IsNode n i → (r : List ℕ)
         → (resource_at (with_node before.nodes p new i) r).state.highest ≤ start + requests_in (marks_of (ms ++ m ∷ []))
@@ -249,6 +260,7 @@ module _ (laws : LawsBelow) {Lossy Copied : Type 0} (n start : ℕ) (ms : List M
           joined = before.joined + more;
           none_joined = λ uncopied. omega (arith, before.none_joined uncopied, none_more uncopied);
           balance = balanced_after (rest ++ m.sends) more balanced;
+          starts = starts_after;
           highest = highest_after rises;
           raising = raising_after rest raising rises;
         }

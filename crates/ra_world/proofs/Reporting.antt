@@ -13,7 +13,7 @@ use Rattle.ra_table.specs.Laws.{IsConflictFree, IsAt}
 use Rattle.ra_world.specs.declared.text.report.Report.{Report}
 use Rattle.ra_world.specs.Traffic.{Move, LeavesUnderWay, lost_by, repeated_by}
 use Rattle.ra_world.specs.Run.{IsRun, EndsWith, marks_of, waiting_at_all}
-use Rattle.ra_world.specs.Quiet.{IsQuiet, IsBlocked, MeetsMessageCount}
+use Rattle.ra_world.specs.Quiet.{IsQuiet, IsBlocked, MeetsMessageCount, withdrawn_in}
 use Rattle.ra_world.specs.World.{Reports}
 use Rattle.ra_world.specs.MainTheorem.{IsQuietReport, MainTheorem}
 
@@ -32,7 +32,7 @@ module _
     → IsNodeNumber n → IsRun n start moves → IsQuiet moves → TableRun (marks_of moves) table
     → MayEnter table e → ⊥)
     (count_of : (n start : ℕ) (moves : List Move) (table : LockTable)
-    → IsNodeNumber n → IsRun n start moves → IsQuiet moves → repeated_by moves ≡ [] → TableRun (marks_of moves) table
+    → IsNodeNumber n → IsRun n start moves → IsQuiet moves → repeated_by moves ≡ [] → withdrawn_in (marks_of moves) ≡ 0 → TableRun (marks_of moves) table
     → table.waiting ≡ [] → MeetsMessageCount n moves)
     (exclusive : (marks : List Mark) (table : LockTable) → TableRun marks table → IsConflictFree table.holding)
     (in_order : (marks : List Mark) (table : LockTable) (e f : Entry) (i j : ℕ) → TableRun marks table → i < j
@@ -63,8 +63,8 @@ module _
               (λ e at. blocked n start moves table e count run (quiet_of quiet) (of_moves table is) at);
           none_may_enter = λ table is quiet. each (λ e. MayEnter table e → ⊥) table.waiting
               (λ e _. no_entry n start moves table e count run (quiet_of quiet) (of_moves table is));
-          count = λ quiet unrepeated none.
+          count = λ quiet unrepeated unwithdrawn none.
               reports.sent
-              ∙ count_of n start moves first.0 count run (quiet_of quiet) (nil_from_length (repeated_by moves) (sym reports.repeated ∙ unrepeated)) (of_moves first.0 first.1) (nil_from_length first.0.waiting (waits first.0 first.1 ∙ none))
+              ∙ count_of n start moves first.0 count run (quiet_of quiet) (nil_from_length (repeated_by moves) (sym reports.repeated ∙ unrepeated)) (sym reports.withdrawn ∙ unwithdrawn) (of_moves first.0 first.1) (nil_from_length first.0.waiting (waits first.0 first.1 ∙ none))
               ∙ ap (λ k. 2 * (n - 1) * k) (sym reports.requests);
         }

@@ -3,20 +3,21 @@ use Rattle.std.proofs.Common.{◌≡◌, ◌⊎◌, ℕ, zero, suc, ◌+◌, Boo
 use Rattle.std.proofs.lemmas.List.Elements.{All-nil, All-cons, All-same, All-contains, All-contains_itself, Contains-append_left, Contains-append_right, Contains-append_cases}
 use Rattle.ra_stamp.specs.declared.entry.Entry.{Entry}
 use Rattle.ra_stamp.specs.declared.entry.Mark.{Mark}
-use Rattle.ra_stamp.specs.declared.entry.Mark.TheVariants.{Requested, Entered, Left}
+use Rattle.ra_stamp.specs.declared.entry.Mark.TheVariants.{Requested, Entered, Left, Withdrawn}
 use Rattle.ra_stamp.specs.declared.message.Message.{Message}
 use Rattle.ra_stamp.specs.declared.message.Message.TheVariants.{Request}
 use Rattle.ra_stamp.specs.declared.mode.Mode.{Mode}
 use Rattle.ra_stamp.specs.Message.{name_of}
 use Rattle.ra_automaton.specs.State.{State, IsOtherNode}
 use Rattle.ra_automaton.specs.Steps.{others_of, RequestStep}
+use Rattle.ra_node.proofs.Endings.{AreEnded, leaves_ended, withdraws_ended}
 use Rattle.ra_node.specs.Resource.{Resource}
-use Rattle.ra_node.specs.Turns.{request_marks, next_entry, EntersBy, AskTurn, LeaveTurn, ReceiveTurn}
+use Rattle.ra_node.specs.Turns.{request_marks, next_entry, EntersBy, AskTurn, Leaves, Withdraws, EndTurn, LeaveTurn, CancelTurn, ReceiveTurn}
 use Rattle.ra_node.specs.Node.{NodeState, resource_at, IsConsistentNode}
 use Rattle.ra_node.specs.Events.{Event, NodeEvent}
-use Rattle.ra_node.specs.Events.Event.{Ask as AskedFor, Leave as GivenBack, Receive as Received}
+use Rattle.ra_node.specs.Events.Event.{Ask as AskedFor, Leave as GivenBack, Cancel as GivenUp, Receive as Received, Forget as Forgot}
 use Rattle.ra_world.specs.declared.step.Step.{Step}
-use Rattle.ra_world.specs.declared.step.Step.TheVariants.{Ask, Leave, Deliver, Lose, Repeat}
+use Rattle.ra_world.specs.declared.step.Step.TheVariants.{Ask, Leave, Cancel, Deliver, Lose, Repeat, Forget}
 use Rattle.ra_world.specs.Fairness.{request_to}
 use Rattle.ra_world.specs.Traffic.{Move, TakesEach, sent_by, taken_in, taken_by, lost_in, lost_by, repeated_in, put_in, put_by}
 use Rattle.ra_world.proofs.Dialogs.{belongs, between, requests_to_one}
@@ -30,11 +31,13 @@ abbrev pub IsSentIn : ℕ → List Message → Mark → Type 0
 IsSentIn n sends (Requested e) = (node : ℕ) → IsOtherNode e.stamp.node n node → Contains sends (request_to node e)
 IsSentIn n sends (Entered e) = Unit {0}
 IsSentIn n sends (Left e) = Unit {0}
+IsSentIn n sends (Withdrawn e) = Unit {0}
 
 pub more_sent : (n : ℕ) (fewer more : List Message) → ((m : Message) → Contains fewer m → Contains more m) → (mark : Mark) → IsSentIn n fewer mark → IsSentIn n more mark
 more_sent n fewer more still (Requested e) sent = λ node other. still (request_to node e) (sent node other)
 more_sent n fewer more still (Entered e) sent = tt
 more_sent n fewer more still (Left e) sent = tt
+more_sent n fewer more still (Withdrawn e) sent = tt
 
 sent_to_one : (p node n : ℕ) (r : List ℕ) (mode : Mode) (seq : ℕ) → IsOtherNode p n node → Contains (map (λ o. Request p o r mode seq) (others_of p n)) (Request p node r mode seq)
 sent_to_one p node n r mode seq other =
@@ -63,16 +66,26 @@ module _ (n : ℕ) (before after : Resource) (sends : List Message) (marks : Lis
     | inr queues ↦ All-same (IsSentIn n sends) marks [] queues.marks_are (All-nil (IsSentIn n sends))
   ]
 
-  leave_sent : (client : ℕ) → LeaveTurn before client sends marks after → All (IsSentIn n sends) marks
-  leave_sent client turn = elim turn [
-    | inl leaves ↦ All-same (IsSentIn n sends) marks (Left leaves.entry ∷ []) leaves.marks_are (All-cons (IsSentIn n sends) (Left leaves.entry) [] tt (All-nil (IsSentIn n sends)))
+  end_sent : (Ends : Entry → List Message → Resource → Type 0) (mark : Entry → Mark) (ended : AreEnded before Ends) → ((e : Entry) → IsSentIn n sends (mark e)) → EndTurn Ends mark before sends marks after → All (IsSentIn n sends) marks
+  end_sent Ends mark ended none turn = elim turn [
+    | inl nobody ↦ All-same (IsSentIn n sends) marks (mark nobody.entry ∷ []) nobody.marks_are (All-cons (IsSentIn n sends) (mark nobody.entry) [] (none nobody.entry) (All-nil (IsSentIn n sends)))
     | inr hands ↦
         let r = record hands.between { queue = hands.rest } in
         let e = next_entry r hands.next.client hands.next.mode in
-        let asked = asked_all n r hands.next.client hands.next.mode hands.requests hands.asks.entered after.state (ap (λ (s : State). s.nodes) hands.leaves.step.new_is ∙ nodes) hands.asks.step in
+        let step = (ended hands.entry hands.replies hands.between hands.ends).step in
+        let asked = asked_all n r hands.next.client hands.next.mode hands.requests hands.asks.entered after.state (step.nodes_is ∙ nodes) hands.asks.step in
         let among = more_sent n hands.requests sends (λ m at. subst (λ (ms : List Message). Contains ms m) (sym hands.sends_are) (Contains-append_right hands.replies hands.requests m at)) (Requested e) asked in
-        All-same (IsSentIn n sends) marks (Left hands.entry ∷ request_marks hands.asks.entered e) (hands.marks_are ∙ ap (λ (ms : List Mark). Left hands.entry ∷ ms) hands.asks.marks_are)
-        (All-cons (IsSentIn n sends) (Left hands.entry) (request_marks hands.asks.entered e) tt (marks_sent n sends e hands.asks.entered among))
+        All-same (IsSentIn n sends) marks (mark hands.entry ∷ request_marks hands.asks.entered e) (hands.marks_are ∙ ap (λ (ms : List Mark). mark hands.entry ∷ ms) hands.asks.marks_are)
+        (All-cons (IsSentIn n sends) (mark hands.entry) (request_marks hands.asks.entered e) (none hands.entry) (marks_sent n sends e hands.asks.entered among))
+  ]
+
+  leave_sent : (client : ℕ) → LeaveTurn before client sends marks after → All (IsSentIn n sends) marks
+  leave_sent client turn = end_sent (Leaves before client) Left (leaves_ended before client) (λ e. tt) turn
+
+  cancel_sent : (client : ℕ) → CancelTurn before client sends marks after → All (IsSentIn n sends) marks
+  cancel_sent client turn = elim turn [
+    | inl goes ↦ All-same (IsSentIn n sends) marks [] goes.marks_are (All-nil (IsSentIn n sends))
+    | inr ends ↦ end_sent (Withdraws before client) Withdrawn (withdraws_ended before client) (λ e. tt) ends
   ]
 
   receive_sent : (m : Message) → ReceiveTurn before m sends marks after → All (IsSentIn n sends) marks
@@ -87,6 +100,9 @@ event_sent n old new (AskedFor client name mode) sends marks consistent nodes as
     ask_sent n (resource_at old name) asked.resource sends marks ((consistent.each name).nodes_is ∙ nodes) client mode asked.turn
 event_sent n old new (GivenBack client name) sends marks consistent nodes left =
     leave_sent n (resource_at old name) left.resource sends marks ((consistent.each name).nodes_is ∙ nodes) client left.turn
+event_sent n old new (GivenUp client name) sends marks consistent nodes cancelled =
+    cancel_sent n (resource_at old name) cancelled.resource sends marks ((consistent.each name).nodes_is ∙ nodes) client cancelled.turn
+event_sent n old new Forgot sends marks consistent nodes forgot = All-same (IsSentIn n sends) marks [] forgot.marks_are (All-nil (IsSentIn n sends))
 event_sent n old new (Received message) sends marks consistent nodes received =
     receive_sent n (resource_at old (name_of message)) received.resource sends marks ((consistent.each (name_of message)).nodes_is ∙ nodes) message received.turn
 
@@ -112,6 +128,8 @@ taken_or_there old (x ∷ taken) new m (next, first, rest) at = elim (taken_or_l
 taken_in_step : (step : Step) (m : Message) → Contains (taken_in step) m → (step ≡ Deliver m) ⊎ Contains (lost_in step) m
 taken_in_step (Ask node client name mode) m at = absurd (omega (arith, at.1))
 taken_in_step (Leave node client name) m at = absurd (omega (arith, at.1))
+taken_in_step (Cancel node client name) m at = absurd (omega (arith, at.1))
+taken_in_step (Forget node) m at = absurd (omega (arith, at.1))
 taken_in_step (Deliver message) m (zero, lt, is) = inl (ap (λ (x : Message). Deliver x) is)
 taken_in_step (Deliver message) m (suc k, lt, is) = absurd (omega (arith, lt))
 taken_in_step (Lose message) m at = inr at

@@ -1,5 +1,5 @@
 -- How numbers rise at a node: by one with a request, and otherwise only to the number of a REQUEST that comes.
-use Rattle.std.proofs.Common.{◌≡◌, ℕ, ◌+◌, ◌≤◌, Bool, List, [], ◌∷◌, All, map, sym, ap, ◌∙◌, subst, arith, inl, inr}
+use Rattle.std.proofs.Common.{◌≡◌, ℕ, ◌+◌, ◌≤◌, Bool, List, [], ◌∷◌, All, map, refl, sym, ap, ◌∙◌, subst, arith, inl, inr}
 use Rattle.std.specs.FinMap as finmap
 use Rattle.std.proofs.lemmas.List.Elements.{All-nil, All-cons, All-append}
 use Rattle.ra_stamp.specs.declared.mode.Mode.{Mode}
@@ -7,9 +7,14 @@ use Rattle.ra_stamp.specs.declared.message.Message.{Message}
 use Rattle.ra_stamp.specs.declared.message.Message.TheVariants.{Request, Reply}
 use Rattle.ra_stamp.specs.declared.entry.Mark.{Mark}
 use Rattle.ra_automaton.specs.State.{State}
-use Rattle.ra_automaton.specs.Steps.{others_of, RequestStep, LeaveStep}
+use Rattle.ra_automaton.specs.Steps.{others_of, RequestStep}
+use Rattle.ra_automaton.proofs.Ending.{EndStep}
+use Rattle.ra_node.proofs.Endings.{AreEnded, leaves_ended, withdraws_ended}
+use Rattle.ra_stamp.specs.declared.entry.Entry.{Entry}
+use Rattle.ra_stamp.specs.declared.entry.Mark.TheVariants.{Left, Withdrawn}
+use Rattle.ra_node.specs.Turns.{request_marks}
 use Rattle.ra_node.specs.Resource.{Resource}
-use Rattle.ra_node.specs.Turns.{next_entry, AskTurn, LeaveTurn, ReceiveTurn}
+use Rattle.ra_node.specs.Turns.{next_entry, AskTurn, Leaves, Withdraws, EndTurn, LeaveTurn, CancelTurn, ReceiveTurn}
 use Rattle.ra_node.proofs.HandOverStep.{handed_step, handed_marks}
 use Rattle.ra_world.specs.Quiet.{requests_in}
 use Rattle.ra_world.proofs.Balance.{marks_request}
@@ -46,9 +51,9 @@ requested s new mode sends entered most low step = (
   subst (All (RaisesTo (most + 1))) (sym step.sends_are) (requests_raise (most + 1) s.me s.name mode (s.highest + 1) (omega (arith, low)) (others_of s.me s.nodes)),
 )
 
-left : (s new : State) (sends : List Message) (most : ℕ) → LeaveStep s sends new → (new.highest ≡ s.highest) × All (RaisesTo most) sends
+left : (s new : State) (sends : List Message) (most : ℕ) → EndStep s sends new → (new.highest ≡ s.highest) × All (RaisesTo most) sends
 left s new sends most step = (
-  ap (λ (x : State). x.highest) step.new_is,
+  step.highest_is,
   subst (All (RaisesTo most)) (sym step.sends_are) (replies_raise most s.me s.name (finmap.entries s.deferred)),
 )
 
@@ -66,20 +71,34 @@ module _ (before after : Resource) (sends : List Message) (marks : List Mark) (m
         }
   ]
 
-  pub leave_rises : (client : ℕ) → LeaveTurn before client sends marks after → Rises after sends (most + requests_in marks)
-  leave_rises client turn = elim turn [
-    | inl leaves ↦
-        let went = left before.state after.state sends (most + requests_in marks) leaves.leaves.step in
+  end_rises : (Ends : Entry → List Message → Resource → Type 0) (mark : Entry → Mark) (ended : AreEnded before Ends) → ((e : Entry) (ms : List Mark) → requests_in (mark e ∷ ms) ≡ requests_in ms) → EndTurn Ends mark before sends marks after → Rises after sends (most + requests_in marks)
+  end_rises Ends mark ended none turn = elim turn [
+    | inl nobody ↦
+        let went = left before.state after.state sends (most + requests_in marks) (ended nobody.entry sends after nobody.ends).step in
         record { highest = omega (arith, low, went.0); raising = went.1 }
     | inr hands ↦
-        let step = handed_step before client sends marks after hands in
-        let one : requests_in marks ≡ 1 = ap requests_in (handed_marks before client sends marks after hands) ∙ marks_request hands.asks.entered (next_entry before hands.next.client hands.next.mode) in
-        let away = left before.state step.between step.replies (most + 1) step.leaves in
+        let step = handed_step Ends mark before ended sends marks after hands in
+        let e = next_entry before hands.next.client hands.next.mode in
+        let one : requests_in marks ≡ 1 = ap requests_in (handed_marks Ends mark before ended sends marks after hands) ∙ none hands.entry (request_marks hands.asks.entered e) ∙ marks_request hands.asks.entered e in
+        let away = left before.state step.between step.replies (most + 1) step.ends in
         let went = requested step.between after.state hands.next.mode step.requests hands.asks.entered most (omega (arith, low, away.0)) step.asks in
         subst (λ (k : ℕ). Rises after sends (most + k)) (sym one) (record {
           highest = went.0;
           raising = subst (All (RaisesTo (most + 1))) (sym step.sends_are) (All-append (RaisesTo (most + 1)) step.replies step.requests away.1 went.1);
         })
+  ]
+
+  pub leave_rises : (client : ℕ) → LeaveTurn before client sends marks after → Rises after sends (most + requests_in marks)
+  leave_rises client turn = end_rises (Leaves before client) Left (leaves_ended before client) (λ e ms. refl) turn
+
+  pub cancel_rises : (client : ℕ) → CancelTurn before client sends marks after → Rises after sends (most + requests_in marks)
+  cancel_rises client turn = elim turn [
+    | inl goes ↦
+        record {
+          highest = omega (arith, low, ap (λ (x : Resource). x.state.highest) goes.new_is);
+          raising = subst (All (RaisesTo (most + requests_in marks))) (sym goes.sends_are) (All-nil (RaisesTo (most + requests_in marks)));
+        }
+    | inr ends ↦ end_rises (Withdraws before client) Withdrawn (withdraws_ended before client) (λ e ms. refl) ends
   ]
 
   pub receive_rises : (m : Message) → RaisesTo most m → ReceiveTurn before m sends marks after → Rises after sends (most + requests_in marks)

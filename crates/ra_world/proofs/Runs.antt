@@ -8,9 +8,9 @@ use Rattle.ra_stamp.specs.Message.{to_of}
 use Rattle.ra_stamp.specs.NodeId.{IsNodeNumber}
 use Rattle.ra_node.specs.Node.{NodeState, opening_node}
 use Rattle.ra_node.specs.Events.{Event, Happening, NodeEvents}
-use Rattle.ra_node.specs.Events.Event.{Ask as AskedFor, Leave as GivenBack, Receive as Received}
+use Rattle.ra_node.specs.Events.Event.{Ask as AskedFor, Leave as GivenBack, Cancel as GivenUp, Receive as Received, Forget as Forgot}
 use Rattle.ra_world.specs.declared.step.Step.{Step}
-use Rattle.ra_world.specs.declared.step.Step.TheVariants.{Ask, Leave, Deliver, Lose, Repeat}
+use Rattle.ra_world.specs.declared.step.Step.TheVariants.{Ask, Leave, Cancel, Deliver, Lose, Repeat, Forget}
 use Rattle.ra_world.specs.Below.{LawsBelow}
 use Rattle.ra_world.specs.Traffic.{Move}
 use Rattle.ra_world.specs.Run.{events_at, happened_at, IsFit, IsRun, EndsWith, GoesOn, WorldRun}
@@ -92,6 +92,11 @@ module _ (laws : LawsBelow) {Lossy Copied : Type 0} (n start : ℕ) where
   alike_move ms (Leave node client name) sends sends' marks marks' before fit fit' ends ends' =
       let event = GivenBack client name in
       alike_at ms (Leave node client name) sends sends' marks marks' node event before fit (at_node node event) (ends node fit) (ends' node fit)
+  alike_move ms (Cancel node client name) sends sends' marks marks' before fit fit' ends ends' =
+      let event = GivenUp client name in
+      alike_at ms (Cancel node client name) sends sends' marks marks' node event before fit (at_node node event) (ends node fit) (ends' node fit)
+  alike_move ms (Forget node) sends sends' marks marks' before fit fit' ends ends' =
+      alike_at ms (Forget node) sends sends' marks marks' node Forgot before fit (at_node node Forgot) (ends node fit) (ends' node fit)
   alike_move ms (Deliver message) sends sends' marks marks' before fit fit' ends ends' =
       let p = to_of message in
       let within = (was_under_way laws n start ms before message fit).traffic.to in

@@ -6,7 +6,7 @@ use Rattle.ra_stamp.specs.NodeId.{IsNodeNumber}
 use Rattle.ra_node.specs.declared.outcome.Outcome.{Outcome}
 use Rattle.ra_node.specs.Node.{NodeState}
 use Rattle.ra_world.specs.declared.step.Step.{Step}
-use Rattle.ra_world.specs.declared.step.Step.TheVariants.{Ask, Leave, Deliver, Lose, Repeat}
+use Rattle.ra_world.specs.declared.step.Step.TheVariants.{Ask, Leave, Cancel, Deliver, Lose, Repeat, Forget}
 use Rattle.ra_world.specs.declared.error.StepError.{StepError}
 use Rattle.ra_world.specs.declared.error.StepError.TheVariants.{Memory}
 use Rattle.ra_world.specs.Traffic.{Move}
@@ -32,6 +32,8 @@ module _
     no_cause : (s : Step) → HasCause w.count w.start w.moves s Memory → ⊥
     no_cause (Ask node client name mode) why = why
     no_cause (Leave node client name) why = why
+    no_cause (Cancel node client name) why = why
+    no_cause (Forget node) why = why
     no_cause (Deliver message) why = why
     no_cause (Lose message) why = why
     no_cause (Repeat message) why = why

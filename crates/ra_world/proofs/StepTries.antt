@@ -9,12 +9,12 @@ use Rattle.ra_node.specs.declared.outcome.Outcome.{Outcome}
 use Rattle.ra_stamp.specs.declared.mode.Mode.{Mode}
 use Rattle.ra_stamp.specs.declared.entry.Entry.{Entry}
 use Rattle.ra_stamp.specs.NodeId.{IsNodeNumber}
-use Rattle.ra_node.specs.Resource.{Holds}
+use Rattle.ra_node.specs.Resource.{Holds, IsKeptWaiting}
 use Rattle.ra_node.specs.Turns.{MayAsk}
 use Rattle.ra_node.specs.Events.{Event, NodeEvent}
 use Rattle.ra_node.specs.Node.{NodeState, opening_node, resource_at}
 use Rattle.ra_world.specs.declared.step.Step.{Step}
-use Rattle.ra_world.specs.declared.step.Step.TheVariants.{Ask, Leave}
+use Rattle.ra_world.specs.declared.step.Step.TheVariants.{Ask, Leave, Cancel}
 use Rattle.ra_world.specs.declared.error.StepError.{StepError}
 use Rattle.ra_world.specs.declared.error.StepError.TheVariants.{Memory}
 use Rattle.ra_world.specs.Traffic.{Move, TakesEach, taken_in, repeated_by}
@@ -138,6 +138,22 @@ leave_on law start nodes left moves place i client name old keeps number within 
     (law (length nodes) start moves (nodes_of nodes) keeps.count keeps.run keeps.ends i client name).1 (
       (omega (arith, number), omega (arith, number, within)),
       subst (λ (s : NodeState). (entry : Entry) × Holds (resource_at s name) client entry) (sym (node_here nodes place i old number within at)) may,
+    )
+
+-- a cancel that its node allows
+pub cancel_on :
+    ((n start : ℕ) (moves : List Move) (nodes : ℕ → NodeState)
+    → IsNodeNumber n → IsRun n start moves → EndsWith n start moves nodes
+    → (node client : ℕ) (name : List ℕ)
+    → GoesOn n start moves (Cancel node client name)
+    ↔ (((1 ≤ node) × (node ≤ n)) × IsKeptWaiting (resource_at (nodes node) name) client))
+    → (start : ℕ) (nodes : List NodeState) (left : List Message) (moves : List Move) (place i client : ℕ) (name : List ℕ) (old : NodeState)
+    → Keeps start nodes left moves → place + 1 ≡ i → place < length nodes → old ≡ get_or nodes place old
+    → IsKeptWaiting (resource_at old name) client → GoesOn (length nodes) start moves (Cancel i client name)
+cancel_on law start nodes left moves place i client name old keeps number within at may =
+    (law (length nodes) start moves (nodes_of nodes) keeps.count keeps.run keeps.ends i client name).1 (
+      (omega (arith, number), omega (arith, number, within)),
+      subst (λ (s : NodeState). IsKeptWaiting (resource_at s name) client) (sym (node_here nodes place i old number within at)) may,
     )
 
 -- an event of the node at a place, in an own form

@@ -13,7 +13,7 @@ use Rattle.std.proofs.lemmas.List.Sums.{sum_by-cons}
 use Rattle.std.proofs.lemmas.Bool.{false≢true}
 use Rattle.ra_stamp.specs.declared.entry.Entry.{Entry}
 use Rattle.ra_stamp.specs.declared.entry.Mark.{Mark}
-use Rattle.ra_stamp.specs.declared.entry.Mark.TheVariants.{Requested, Entered, Left}
+use Rattle.ra_stamp.specs.declared.entry.Mark.TheVariants.{Requested, Entered, Left, Withdrawn}
 use Rattle.ra_automaton.specs.declared.phase.Phase.{Phase}
 use Rattle.ra_automaton.specs.declared.phase.Phase.TheVariants.{Idle, Waiting, Inside}
 use Rattle.ra_automaton.specs.State.{State}
@@ -163,6 +163,9 @@ marks_count (Entered e ∷ marks) t t' w w' steps leads =
 marks_count (Left e ∷ marks) t t' w w' steps leads =
     let rest = marks_count marks steps.0 t' Nobody w' steps.2 leads.1 in
     omega (arith, rest, ap length steps.1.1, ap waits_as leads.0)
+marks_count (Withdrawn e ∷ marks) t t' w w' steps leads =
+    let rest = marks_count marks steps.0 t' Nobody w' steps.2 leads.1 in
+    omega (arith, rest, gains_one steps.0.waiting t.waiting e steps.1.1, ap waits_as leads.0)
 
 fits_count : (s : State) (phase : Phase) (client : Option ℕ) → ClientFits phase client → waiting_in phase ≡ waits_as (use_in s phase client)
 fits_count s Idle None fits = refl

@@ -12,23 +12,23 @@ use Rattle.ra_stamp.specs.NodeId.{IsNodeNumber}
 use Rattle.ra_stamp.proofs.StampLaws.{conflict_flips, one_is_earlier, same_messages}
 use Rattle.ra_bag.specs.Bag.{TakesFirst, TakesOne}
 use Rattle.ra_automaton.specs.State.{IsForNode, IsOtherNode}
-use Rattle.ra_automaton.proofs.Consistent.{consistent_request, consistent_receive, consistent_leave}
+use Rattle.ra_automaton.proofs.Consistent.{consistent_request, consistent_receive, consistent_leave, consistent_withdraw}
 use Rattle.ra_node.specs.Node.{NodeState, opening_node, resource_at, queued_count, IsConsistentNode}
-use Rattle.ra_node.specs.Resource.{Holds}
+use Rattle.ra_node.specs.Resource.{Holds, IsKeptWaiting}
 use Rattle.ra_node.specs.Turns.{MayAsk}
 use Rattle.ra_node.specs.Events.{Event, Happening, NodeEvent, IsForThisNode, name_of_event}
 use Rattle.ra_node.specs.Carried.{IsMark}
 use Rattle.ra_node.proofs.NodeLemmas.{opening_is_consistent}
-use Rattle.ra_node.proofs.EventLemmas.{other_resource, same_node}
+use Rattle.ra_node.proofs.EventLemmas.{other_resource, same_node, same_start}
 use Rattle.ra_node.proofs.EventsKept.{event_kept, event_sends, event_numbers, event_marks, event_leads}
 use Rattle.ra_node.proofs.Determined.{event_one, events_one}
-use Rattle.ra_node.proofs.Possible.{ask_is_possible, ask_was_allowed, leave_is_possible, leave_was_allowed, receive_is_possible}
+use Rattle.ra_node.proofs.Possible.{ask_is_possible, ask_was_allowed, leave_is_possible, leave_was_allowed, cancel_is_possible, cancel_was_allowed, receive_is_possible}
 use Rattle.ra_node.proofs.Chains.{events_join, events_split}
 use Rattle.ra_table.proofs.History.{run_waits, same_entries}
 use Rattle.ra_table.proofs.Runs.{steps_join, holders_do_not_conflict, grants_by_stamp}
 use Rattle.ra_world.specs.declared.error.StepError.{StepError}
 use Rattle.ra_world.specs.declared.step.Step.{Step}
-use Rattle.ra_world.specs.declared.step.Step.TheVariants.{Ask, Leave, Deliver, Lose, Repeat}
+use Rattle.ra_world.specs.declared.step.Step.TheVariants.{Ask, Leave, Cancel, Deliver, Lose, Repeat, Forget}
 use Rattle.ra_world.specs.declared.text.report.Report.{Report}
 use Rattle.ra_world.specs.Below.{LawsBelow}
 use Rattle.ra_world.specs.Fairness.{IsFair}
@@ -44,7 +44,7 @@ use Rattle.ra_world.proofs.DifferentRuns.{messages_differ}
 use Rattle.ra_world.proofs.Elsewhere.{stays}
 use Rattle.ra_world.proofs.Fairness.{is_fair}
 use Rattle.ra_world.proofs.FittingRuns.{fit_is_run}
-use Rattle.ra_world.proofs.GoingOn.{consistent_at, event_goes_on, loss_goes_on, copy_goes_on, ask_goes_on, leave_goes_on, deliver_goes_on, lose_goes_on, repeat_goes_on}
+use Rattle.ra_world.proofs.GoingOn.{consistent_at, event_goes_on, loss_goes_on, copy_goes_on, ask_goes_on, leave_goes_on, cancel_goes_on, forget_goes_on, deliver_goes_on, lose_goes_on, repeat_goes_on}
 use Rattle.ra_world.proofs.KeptRuns as kept
 use Rattle.ra_world.proofs.Outcomes.{has_table, as_many_wait, something_under_way, is_traffic, among_them}
 use Rattle.ra_world.proofs.Queues as queues
@@ -52,6 +52,7 @@ use Rattle.ra_world.proofs.QuietRuns.{is_blocked, meets_count, blocked_may_not_e
 use Rattle.ra_world.proofs.Reached.{under_way_more}
 use Rattle.ra_world.proofs.Reporting.{meets}
 use Rattle.ra_world.proofs.Runs.{prefixes}
+use Rattle.ra_node.proofs.Forgetting.{forget_is_possible}
 
 -- ---- What the crates below say
 
@@ -61,6 +62,7 @@ pub stays_consistent : (old new : NodeState) (event : Event) (sends : List Messa
 stays_consistent =
     event_kept (λ old new mode sends entered. consistent_request old mode sends entered new)
     (λ old new message sends entered. consistent_receive old message sends entered new) (λ old new sends. consistent_leave old sends new)
+    (λ old new sends. consistent_withdraw old sends new)
 
 -- the marks of an event are of this node and name
 pub marks_kept : (old new : NodeState) (event : Event) (sends : List Message) (marks : List Mark)
@@ -72,6 +74,7 @@ laws_below = record {
   symmetric = conflict_flips;
   same_or_apart = λ a b. decided _ (same_messages a b);
   leave_consistent = λ old new sends. consistent_leave old sends new;
+  withdraw_consistent = λ old new sends. consistent_withdraw old sends new;
   opens = opening_is_consistent;
   consistent = stays_consistent;
   own_sends = event_sends;
@@ -79,11 +82,14 @@ laws_below = record {
   one_request = event_leads;
   other_names = other_resource;
   same_node = same_node;
+  same_start = same_start;
   one_event = λ old a b event sends sends' marks marks'. event_one old a b event sends sends' marks marks';
   one_end = λ old a b happened. events_one happened old a b;
   may_ask = λ old client name mode h. (ask_was_allowed old client name mode, ask_is_possible old client name mode h);
   may_leave = λ old client name h. (leave_was_allowed old client name, leave_is_possible old client name h);
+  may_cancel = λ old client name h. (cancel_was_allowed old client name, cancel_is_possible old client name h);
   may_receive = receive_is_possible;
+  may_forget = forget_is_possible;
   splits = events_split;
   joins = events_join;
   table_joins = steps_join;
@@ -95,6 +101,10 @@ laws_below = record {
 pub deliver_allowed : (n start : ℕ) (moves : List Move) → IsNodeNumber n → IsRun n start moves
     → (message : Message) → GoesOn n start moves (Deliver message) ↔ IsUnderWay moves message
 deliver_allowed n start moves count run = deliver_goes_on laws_below n start moves run.ends.0 count run run.ends.1
+
+pub forget_allowed : (n start : ℕ) (moves : List Move) → IsNodeNumber n → IsRun n start moves
+    → (node : ℕ) → GoesOn n start moves (Forget node) ↔ ((1 ≤ node) × (node ≤ n))
+forget_allowed n start moves count run = forget_goes_on laws_below n start moves run.ends.0 count run run.ends.1
 
 pub lose_allowed : (n start : ℕ) (moves : List Move) → IsNodeNumber n → IsRun n start moves
     → (message : Message) → GoesOn n start moves (Lose message) ↔ IsUnderWay moves message
@@ -121,12 +131,20 @@ leave_stays n start moves move count run node client name none =
     (λ (s : NodeState). (entry : Entry) × Holds (resource_at s name) client entry)
     (λ ms nodes runs ends. leave_goes_on laws_below n start ms nodes count runs ends node client name) none
 
+pub cancel_stays : (n start : ℕ) (moves : List Move) (move : Move) → IsNodeNumber n → IsRun n start (moves ++ move ∷ [])
+    → (node client : ℕ) (name : List ℕ) → events_at node move.step ≡ []
+    → GoesOn n start moves (Cancel node client name) ↔ GoesOn n start (moves ++ move ∷ []) (Cancel node client name)
+cancel_stays n start moves move count run node client name none =
+    stays n start moves move (prefixes laws_below.splits n start (move ∷ []) moves run) run node (Cancel node client name)
+    (λ (s : NodeState). IsKeptWaiting (resource_at s name) client)
+    (λ ms nodes runs ends. cancel_goes_on laws_below n start ms nodes count runs ends node client name) none
+
 -- If a step has a cause of refusal, the run does not go on with it, and it has one cause.
 pub no_step : (n start : ℕ) (moves : List Move) (step : Step) (cause : StepError) → IsNodeNumber n → IsRun n start moves
     → HasCause n start moves step cause → GoesOn n start moves step → ⊥
 no_step =
     causes.no_step (λ n start moves. ask_goes_on laws_below n start moves) (λ n start moves. leave_goes_on laws_below n start moves)
-    deliver_allowed lose_allowed repeat_allowed
+    (λ n start moves. cancel_goes_on laws_below n start moves) forget_allowed deliver_allowed lose_allowed repeat_allowed
 
 pub one_cause : (n start : ℕ) (moves : List Move) (step : Step) (a b : StepError)
     → HasCause n start moves step a → HasCause n start moves step b → a ≡ b
@@ -206,7 +224,7 @@ reports_meet_the_main_theorem =
     (λ n start moves table e count run quiet. is_blocked laws_below n start moves count run quiet (same_entries (marks_of moves)) table e)
     (λ n start moves table e count run quiet table_run may.
     blocked_may_not_enter table e (is_blocked laws_below n start moves count run quiet (same_entries (marks_of moves)) table e table_run may.waits) may)
-    (λ n start moves table count run quiet unrepeated. meets_count laws_below n start moves count run quiet (same_entries (marks_of moves)) unrepeated table)
+    (λ n start moves table count run quiet unrepeated unwithdrawn. meets_count laws_below n start moves count run quiet (same_entries (marks_of moves)) unrepeated unwithdrawn table)
     (holders_do_not_conflict conflict_flips) (grants_by_stamp conflict_flips one_is_earlier)
 
 -- ---- Steps that fit together

@@ -1,6 +1,6 @@
 -- What a world says of the run that it keeps: that it has begun, what its report is, and which steps it accepts.
-use Rattle.std.proofs.Common.{◌≡◌, ◌⊎◌, ◌↔◌, ℕ, ◌+◌, ◌-◌, ◌<◌, ◌≤◌, Bool, false, List, [], map, length, get_or, Contains, sym, ap, ◌∙◌, subst, arith, inl, inr}
-use Rattle.std.specs.Prelude.{IsTrue, sum_by}
+use Rattle.std.proofs.Common.{◌≡◌, ◌⊎◌, ◌↔◌, ℕ, ◌+◌, ◌-◌, ◌<◌, ◌≤◌, Bool, false, List, [], map, length, get_or, Contains, Option, Some, None, refl, sym, ap, ◌∙◌, subst, arith, inl, inr}
+use Rattle.std.specs.Prelude.{IsTrue, IfSome, IsNone, is_some, sum_by}
 use Rattle.std.specs.List.{range_with_len}
 use Rattle.std.proofs.lemmas.List.{get_or_default}
 use Rattle.ra_stamp.specs.declared.message.Message.{Message}
@@ -10,7 +10,7 @@ use Rattle.ra_world.specs.declared.step.Step.{Step}
 use Rattle.ra_world.specs.declared.step.Step.TheVariants.{Deliver, Lose, Repeat}
 use Rattle.ra_world.specs.Traffic.{Move, IsUnderWay, sent_by, lost_by, repeated_by}
 use Rattle.ra_world.specs.Run.{GoesOn, marks_of}
-use Rattle.ra_world.specs.Quiet.{requests_in}
+use Rattle.ra_world.specs.Quiet.{requests_in, withdrawn_in}
 use Rattle.ra_world.specs.World.{Reports, AreWaiting, AreQueued}
 use Rattle.ra_world.specs.Keeping.{nodes_of, Keeps}
 
@@ -32,15 +32,16 @@ pub reported : (start : ℕ) (nodes : List NodeState) (left : List Message) (mov
     → ((ns : List NodeState) (f : NodeState → ℕ) → sum_by (λ i. f (nodes_of ns i)) (range_with_len 1 (length ns)) ≡ sum_by f ns)
     → report.marks.items ≡ marks_of moves → report.sent ≡ length (sent_by moves)
     → report.requests ≡ requests_in (marks_of moves) → report.under_way ≡ length left → report.lost ≡ length (lost_by moves)
-    → report.repeated ≡ length (repeated_by moves) → report.waiting ≡ sum_by waiting_count nodes → report.queued ≡ sum_by queued_count nodes
+    → report.repeated ≡ length (repeated_by moves) → report.withdrawn ≡ withdrawn_in (marks_of moves) → report.waiting ≡ sum_by waiting_count nodes → report.queued ≡ sum_by queued_count nodes
     → Reports (length nodes) start moves report
-reported start nodes left moves report keeps at_all marks sent requests under_way lost repeated waiting queued = record {
+reported start nodes left moves report keeps at_all marks sent requests under_way lost repeated withdrawn waiting queued = record {
   marks = marks;
   sent = sent;
   requests = requests;
   under_way = (left, keeps.under_way, under_way);
   lost = lost;
   repeated = repeated;
+  withdrawn = withdrawn;
   at_nodes = (nodes_of nodes, keeps.ends, waiting ∙ sym (at_all nodes waiting_count), queued ∙ sym (at_all nodes queued_count));
 }
 
@@ -82,6 +83,19 @@ refused_above n start moves step node P law above =
   where
     never : IsTrue false → ⊥
     never e = cc
+
+-- a step that each node there is can make
+pub accepted_there : (n start : ℕ) (moves : List Move) (step : Step) (node : ℕ) (found : Option ℕ) (answer : Bool)
+    → GoesOn n start moves step ↔ ((1 ≤ node) × (node ≤ n))
+    → IfSome found (λ place. (place + 1 ≡ node) × (place < n)) → IsNone found ↔ (n < node) → answer ≡ is_some found
+    → IsTrue answer ↔ GoesOn n start moves step
+accepted_there n start moves step node None answer law some none is =
+    (λ yes. absurd (never (sym is ∙ yes)), λ on. absurd (omega (arith, none.0 refl, (law.0 on).1)))
+  where
+    never : IsTrue false → ⊥
+    never e = cc
+accepted_there n start moves step node (Some place) answer law some none is =
+    (λ _. law.1 (omega (arith, some.0), omega (arith, some.0, some.1)), λ _. is)
 
 -- a message can be delivered, lost or repeated if it is kept
 pub accepted_message : (n start : ℕ) (moves : List Move) (left : List Message) (step : Step) (message : Message) (answer : Bool)

@@ -8,12 +8,12 @@ use Rattle.ra_stamp.specs.Message.{seq_of}
 use Rattle.ra_stamp.specs.Mode.{Conflict}
 use Rattle.ra_stamp.specs.NodeId.{IsNodeNumber}
 use Rattle.ra_automaton.specs.State.{State, IsConsistent}
-use Rattle.ra_automaton.specs.Steps.{LeaveStep}
-use Rattle.ra_node.specs.Resource.{Holds, use_of}
+use Rattle.ra_automaton.specs.Steps.{LeaveStep, WithdrawStep}
+use Rattle.ra_node.specs.Resource.{Holds, IsKeptWaiting, use_of}
 use Rattle.ra_node.specs.Turns.{MayAsk}
 use Rattle.ra_node.specs.Node.{NodeState, opening_node, resource_at, IsConsistentNode}
-use Rattle.ra_node.specs.Events.{Event, Happening, name_of_event, NodeEvent, NodeEvents, AllowsEvent, IsForThisNode}
-use Rattle.ra_node.specs.Events.Event.{Ask, Leave, Receive}
+use Rattle.ra_node.specs.Events.{Event, Happening, IsNamed, name_of_event, NodeEvent, NodeEvents, AllowsEvent, IsForThisNode}
+use Rattle.ra_node.specs.Events.Event.{Ask, Leave, Cancel, Receive, Forget}
 use Rattle.ra_node.specs.Carried.{IsSend, MarksLead}
 use Rattle.ra_table.specs.Table.{LockTable, TableSteps}
 
@@ -25,6 +25,8 @@ pub record LawsBelow : Type 0 where
   -- of the steps of an automaton
   pub leave_consistent : (old new : State) (sends : List Message)
       → IsConsistent old → LeaveStep old sends new → IsConsistent new
+  pub withdraw_consistent : (old new : State) (sends : List Message)
+      → IsConsistent old → WithdrawStep old sends new → IsConsistent new
   -- of the events of a node
   pub opens : (me nodes start : ℕ) → IsNodeNumber nodes → (1 ≤ me) × (me ≤ nodes)
       → IsConsistentNode (opening_node me nodes start)
@@ -44,11 +46,13 @@ pub record LawsBelow : Type 0 where
       (use_of (resource_at new (name_of_event event)))
   pub other_names : (old new : NodeState) (event : Event) (sends : List Message) (marks : List Mark)
       (other : List ℕ)
-      → NodeEvent old event sends marks new → other ≢ name_of_event event
+      → NodeEvent old event sends marks new → IsNamed event → other ≢ name_of_event event
       → resource_at new other ≡ resource_at old other
   pub same_node : (old new : NodeState) (event : Event) (sends : List Message) (marks : List Mark)
       → NodeEvent old event sends marks new → (new.me ≡ old.me) × (new.nodes ≡ old.nodes)
-      × (new.start ≡ old.start)
+      × (old.start ≤ new.start)
+  pub same_start : (old new : NodeState) (event : Event) (sends : List Message) (marks : List Mark)
+      → NodeEvent old event sends marks new → IsNamed event → new.start ≡ old.start
   pub one_event : (old a b : NodeState) (event : Event) (sends sends' : List Message)
       (marks marks' : List Mark)
       → NodeEvent old event sends marks a → NodeEvent old event sends' marks' b
@@ -59,6 +63,9 @@ pub record LawsBelow : Type 0 where
       → AllowsEvent old (Ask client name mode) ↔ MayAsk (resource_at old name) client
   pub may_leave : (old : NodeState) (client : ℕ) (name : List ℕ) → IsConsistentNode old
       → AllowsEvent old (Leave client name) ↔ ((entry : Entry) × Holds (resource_at old name) client entry)
+  pub may_cancel : (old : NodeState) (client : ℕ) (name : List ℕ) → IsConsistentNode old
+      → AllowsEvent old (Cancel client name) ↔ IsKeptWaiting (resource_at old name) client
+  pub may_forget : (old : NodeState) → IsConsistentNode old → AllowsEvent old Forget
   pub may_receive : (old : NodeState) (message : Message) → IsConsistentNode old
       → AllowsEvent old (Receive message)
   pub splits : (prefix rest : List Happening) (a c : NodeState) → NodeEvents a (prefix ++ rest) c

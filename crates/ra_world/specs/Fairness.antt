@@ -2,7 +2,7 @@
 use Rattle.std.specs.Prelude.{◌≡◌, ◌≢◌, ℕ, ◌<◌, List, ◌++◌, Contains, map}
 use Rattle.ra_stamp.specs.declared.entry.Entry.{Entry}
 use Rattle.ra_stamp.specs.declared.entry.Mark.{Mark}
-use Rattle.ra_stamp.specs.declared.entry.Mark.TheVariants.{Entered}
+use Rattle.ra_stamp.specs.declared.entry.Mark.TheVariants.{Entered, Withdrawn}
 use Rattle.ra_stamp.specs.declared.message.Message.{Message}
 use Rattle.ra_stamp.specs.declared.message.Message.TheVariants.{Request}
 use Rattle.ra_stamp.specs.Stamp.{IsEarlier}
@@ -26,19 +26,22 @@ pub record NoneIsMissing (moves : List Move) (e : Entry) : Type 0 where
   pub none_under_way : (node : ℕ) → IsUnderWay moves (request_to node e) → ⊥
   pub none_lost : (node : ℕ) → Contains (lost_by moves) (request_to node e) → ⊥
 
--- at this place of the marks f enters, which is another entry that excludes e, and e has not entered at an earlier place
+-- at this place of the marks f enters, which is another entry that excludes e, and e still waits: at no earlier place
+-- it has entered or was withdrawn
 pub record Overtakes (marks : List Mark) (place : ℕ) (f e : Entry) : Type 0 where
   pub other : f ≢ e
   pub excludes : Excludes f e
   pub enters : IsAt marks place (Entered f)
   pub not_yet : (earlier : ℕ) → earlier < place → IsAt marks earlier (Entered e) → ⊥
+  pub not_withdrawn : (earlier : ℕ) → earlier < place → IsAt marks earlier (Withdrawn e) → ⊥
 
 -- The later moves are fair to an entry that waits in the table to which the first moves lead.
 pub record IsFairTo (n : ℕ) (before : List Move) (table : LockTable) (e : Entry) (later : List Move) : Type 0 where
   -- whoever overtakes e is of another node, and has an earlier stamp
   pub elsewhere : (place : ℕ) (f : Entry) → Overtakes (marks_of later) place f e → IsOtherNode e.stamp.node n f.stamp.node
   pub earlier : (place : ℕ) (f : Entry) → Overtakes (marks_of later) place f e → IsEarlier f.stamp e.stamp
-  -- if e's REQUEST has arrived at that node, whoever overtakes waits in the table, too, and the node does so once at most
+  -- if e's REQUEST has arrived at that node, whoever overtakes waits in the table, too, and the node does so once at
+  -- most
   pub waits : (place : ℕ) (f : Entry) → Overtakes (marks_of later) place f e → HasArrivedAt f.stamp.node before e
       → Contains table.waiting f
   pub once : (i j : ℕ) (f g : Entry) → Overtakes (marks_of later) i f e → Overtakes (marks_of later) j g e

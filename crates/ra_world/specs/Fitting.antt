@@ -6,7 +6,7 @@ use Rattle.ra_stamp.specs.declared.message.Message.{Message}
 use Rattle.ra_node.specs.Node.{NodeState, opening_node}
 use Rattle.ra_node.specs.Events.{Happening, NodeEvents}
 use Rattle.ra_world.specs.declared.step.Step.{Step}
-use Rattle.ra_world.specs.declared.step.Step.TheVariants.{Ask, Leave, Deliver, Lose, Repeat}
+use Rattle.ra_world.specs.declared.step.Step.TheVariants.{Ask, Leave, Cancel, Deliver, Lose, Repeat, Forget}
 use Rattle.ra_world.specs.Traffic.{taken_in, repeated_in}
 use Rattle.ra_world.specs.Run.{events_at}
 
@@ -23,13 +23,15 @@ abbrev pub WasSentBy : ℕ → (ℕ → List Happening) → List Step → Messag
 WasSentBy n happened steps message =
     (i : ℕ) × (1 ≤ i) × (i ≤ n) × Contains (sent_in (happened_by (happened i) i steps)) message
 
--- a client's step names an existing node
+-- the step of a client, and to forget, name an existing node
 abbrev pub NamesNode : ℕ → Step → Type 0
 NamesNode n (Ask node client name mode) = (1 ≤ node) × (node ≤ n)
 NamesNode n (Leave node client name) = (1 ≤ node) × (node ≤ n)
+NamesNode n (Cancel node client name) = (1 ≤ node) × (node ≤ n)
 NamesNode n (Deliver message) = Unit {0}
 NamesNode n (Lose message) = Unit {0}
 NamesNode n (Repeat message) = Unit {0}
+NamesNode n (Forget node) = (1 ≤ node) × (node ≤ n)
 
 -- These steps, and what happened at each node, fit together. What happened is a history of the node, and its events are
 -- those of the steps. A client's step names an existing node. Each message that a step takes was sent by the steps

@@ -46,6 +46,7 @@ report_with figures marks =
       under_way = figures.under_way;
       lost = figures.lost;
       repeated = figures.repeated;
+      withdrawn = figures.withdrawn;
       waiting = figures.waiting;
       queued = figures.queued;
     }

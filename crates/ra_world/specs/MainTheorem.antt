@@ -22,7 +22,7 @@ pub record IsQuietReport (report : Report) : Type 0 where
 
 -- The theorem, for n nodes. A table of the report is any table that its marks lead to.
 pub record MainTheorem (n : ℕ) (report : Report) : Type 0 where
-  -- the requests, grants and releases reported are a run of the lock table
+  -- the requests, grants, releases and withdrawals reported are a run of the lock table
   pub table_run : (table : LockTable) × TableRun report.marks.items table
   -- and as many requests wait in it as the report says
   pub waiting : (table : LockTable) → TableRun report.marks.items table
@@ -38,5 +38,7 @@ pub record MainTheorem (n : ℕ) (report : Report) : Type 0 where
   -- so no waiting request could enter
   pub none_may_enter : (table : LockTable) → TableRun report.marks.items table → IsQuietReport report
       → All (λ e. MayEnter table e → ⊥) table.waiting
-  -- and if no request waits and nothing was repeated, exactly two messages were sent for each request and other node
-  pub count : IsQuietReport report → report.repeated ≡ 0 → report.waiting ≡ 0 → report.sent ≡ 2 * (n - 1) * report.requests
+  -- and if no request waits and nothing was repeated or withdrawn, exactly two messages were sent for each request
+  -- and other node
+  pub count : IsQuietReport report → report.repeated ≡ 0 → report.withdrawn ≡ 0 → report.waiting ≡ 0
+      → report.sent ≡ 2 * (n - 1) * report.requests

@@ -2,7 +2,7 @@
 use Rattle.std.specs.Prelude.{◌≡◌, ◌⊎◌, ℕ, ◌+◌, ◌-◌, ◌*◌, List, [], ◌∷◌, length}
 use Rattle.ra_stamp.specs.declared.entry.Entry.{Entry}
 use Rattle.ra_stamp.specs.declared.entry.Mark.{Mark}
-use Rattle.ra_stamp.specs.declared.entry.Mark.TheVariants.{Requested, Entered, Left}
+use Rattle.ra_stamp.specs.declared.entry.Mark.TheVariants.{Requested, Entered, Left, Withdrawn}
 use Rattle.ra_table.specs.Table.{LockTable}
 use Rattle.ra_table.specs.Refusals.{IsHeld, HasEarlier}
 use Rattle.ra_world.specs.Traffic.{Move, sent_by, lost_by, LeavesUnderWay}
@@ -23,6 +23,15 @@ requests_in [] = 0
 requests_in (Requested e ∷ marks) = requests_in marks + 1
 requests_in (Entered e ∷ marks) = requests_in marks
 requests_in (Left e ∷ marks) = requests_in marks
+requests_in (Withdrawn e ∷ marks) = requests_in marks
+
+-- how many requests were withdrawn, by these marks
+abbrev pub withdrawn_in : List Mark → ℕ
+withdrawn_in [] = 0
+withdrawn_in (Requested e ∷ marks) = withdrawn_in marks
+withdrawn_in (Entered e ∷ marks) = withdrawn_in marks
+withdrawn_in (Left e ∷ marks) = withdrawn_in marks
+withdrawn_in (Withdrawn e ∷ marks) = withdrawn_in marks + 1
 
 -- exactly two messages were sent for each request and other node
 abbrev pub MeetsMessageCount : ℕ → List Move → Type 0

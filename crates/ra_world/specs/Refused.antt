@@ -3,10 +3,12 @@
 use Rattle.std.specs.Prelude.{◌≡◌, ℕ, ◌-◌, ◌≤◌, List, Some, map, take, slice_get}
 use Rattle.ra_node.specs.declared.error.AskError.{AskError}
 use Rattle.ra_node.specs.declared.error.AskError.TheVariants as ask
+use Rattle.ra_node.specs.declared.error.CancelError.{CancelError}
+use Rattle.ra_node.specs.declared.error.CancelError.TheVariants as cancel
 use Rattle.ra_node.specs.declared.error.LeaveError.{LeaveError}
 use Rattle.ra_node.specs.declared.error.LeaveError.TheVariants as leave
 use Rattle.ra_world.specs.declared.step.Step.{Step}
-use Rattle.ra_world.specs.declared.error.NodeRefusal.TheVariants.{Busy, Exhausted, NotHeld}
+use Rattle.ra_world.specs.declared.error.NodeRefusal.TheVariants.{Busy, Exhausted, NotHeld, NotWaiting}
 use Rattle.ra_world.specs.declared.error.StepError.{StepError}
 use Rattle.ra_world.specs.declared.error.StepError.TheVariants.{Node, Memory}
 use Rattle.ra_world.specs.declared.error.NewError.{NewError}
@@ -32,6 +34,11 @@ refusal_of_ask ask.Memory = Memory
 abbrev pub refusal_of_leave : LeaveError → StepError
 refusal_of_leave leave.NotHeld = Node NotHeld
 refusal_of_leave leave.Memory = Memory
+
+-- the refusal of a step that a refusal of its node's cancel becomes
+abbrev pub refusal_of_cancel : CancelError → StepError
+refusal_of_cancel cancel.NotWaiting = Node NotWaiting
+refusal_of_cancel cancel.Memory = Memory
 
 -- the first place, counted from 1, at which a list of steps is no longer a run, and why
 pub record IsRefusedAt (n start : ℕ) (steps : List Step) (place : ℕ) (cause : StepError) : Type 0 where

@@ -6,18 +6,20 @@ use Rattle.ra_stamp.specs.declared.entry.Mark.{Mark}
 use Rattle.ra_stamp.specs.Message.{to_of}
 use Rattle.ra_node.specs.Node.{NodeState, opening_node, waiting_count, queued_count}
 use Rattle.ra_node.specs.Events.{Event, Happening, NodeEvents}
-use Rattle.ra_node.specs.Events.Event.{Ask as AskedFor, Leave as GivenBack, Receive as Received}
+use Rattle.ra_node.specs.Events.Event.{Ask as AskedFor, Leave as GivenBack, Cancel as GivenUp, Receive as Received, Forget as Forgot}
 use Rattle.ra_world.specs.declared.step.Step.{Step}
-use Rattle.ra_world.specs.declared.step.Step.TheVariants.{Ask, Leave, Deliver, Lose, Repeat}
+use Rattle.ra_world.specs.declared.step.Step.TheVariants.{Ask, Leave, Cancel, Deliver, Lose, Repeat, Forget}
 use Rattle.ra_world.specs.Traffic.{Move, IsUnderWay}
 
 -- what happens at a node in a step: one event, or nothing
 abbrev pub events_at : ℕ → Step → List Event
 events_at i (Ask node client name mode) = if node == i then AskedFor client name mode ∷ [] else []
 events_at i (Leave node client name) = if node == i then GivenBack client name ∷ [] else []
+events_at i (Cancel node client name) = if node == i then GivenUp client name ∷ [] else []
 events_at i (Deliver message) = if to_of message == i then Received message ∷ [] else []
 events_at i (Lose message) = []
 events_at i (Repeat message) = []
+events_at i (Forget node) = if node == i then Forgot ∷ [] else []
 
 -- what happened at a node, in order
 abbrev pub happened_at : ℕ → List Move → List Happening
@@ -31,14 +33,16 @@ abbrev pub marks_of : List Move → List Mark
 marks_of [] = []
 marks_of (move ∷ moves) = move.marks ++ marks_of moves
 
--- a client's step names an existing node, a message that is delivered, lost or repeated is under way, and a loss or a
--- repeat sends and marks nothing
+-- the step of a client, and to forget, name an existing node, a message that is delivered, lost or repeated is under
+-- way, and a loss or a repeat sends and marks nothing
 abbrev pub IsFit : ℕ → List Move → Step → List Message → List Mark → Type 0
 IsFit n before (Ask node client name mode) sends marks = (1 ≤ node) × (node ≤ n)
 IsFit n before (Leave node client name) sends marks = (1 ≤ node) × (node ≤ n)
+IsFit n before (Cancel node client name) sends marks = (1 ≤ node) × (node ≤ n)
 IsFit n before (Deliver message) sends marks = IsUnderWay before message
 IsFit n before (Lose message) sends marks = IsUnderWay before message × (sends ≡ []) × (marks ≡ [])
 IsFit n before (Repeat message) sends marks = IsUnderWay before message × (sends ≡ []) × (marks ≡ [])
+IsFit n before (Forget node) sends marks = (1 ≤ node) × (node ≤ n)
 
 -- each of these moves fits, one after the other, after the moves before
 abbrev pub AreFit : ℕ → List Move → List Move → Type 0

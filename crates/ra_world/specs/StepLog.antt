@@ -7,7 +7,7 @@ use Rattle.ra_node.specs.declared.outcome.Outcome.{Outcome}
 use Rattle.ra_world.specs.declared.step.Step.{Step}
 use Rattle.ra_world.specs.Traffic.{Move, sent_by, lost_by, repeated_by}
 use Rattle.ra_world.specs.Run.{marks_of}
-use Rattle.ra_world.specs.Quiet.{requests_in}
+use Rattle.ra_world.specs.Quiet.{requests_in, withdrawn_in}
 
 -- the moves, and how many more marks there is room for
 pub record LogState : Type 0 where
@@ -32,8 +32,8 @@ abbrev pub moves_of : List (Step × Outcome) → List Move
 moves_of made = map move_of made
 
 -- What is kept is that of the moves, the marks only if they are to be kept. The messages sent are at most 2^64-1 times
--- the steps, and so are the requests.
-pub record AreCounted (keeps : ℕ) (moves : List Move) (steps : ℕ) (marks : List Mark) (sent requests lost repeated : ℕ) : Type 0 where
+-- the steps, and so are the requests and the withdrawals.
+pub record AreCounted (keeps : ℕ) (moves : List Move) (steps : ℕ) (marks : List Mark) (sent requests lost repeated withdrawn : ℕ) : Type 0 where
   pub steps_are : steps ≡ length moves
   pub marks_are : keeps ≡ 1 → marks ≡ marks_of moves
   pub sent_is : sent ≡ length (sent_by moves)
@@ -42,3 +42,5 @@ pub record AreCounted (keeps : ℕ) (moves : List Move) (steps : ℕ) (marks : L
   pub requests_fit : requests ≤ 18446744073709551615 * steps
   pub lost_are : lost ≡ length (lost_by moves)
   pub repeated_are : repeated ≡ length (repeated_by moves)
+  pub withdrawn_are : withdrawn ≡ withdrawn_in (marks_of moves)
+  pub withdrawn_fit : withdrawn ≤ 18446744073709551615 * steps

@@ -4,7 +4,7 @@ use Rattle.ra_stamp.specs.declared.message.Message.{Message}
 use Rattle.ra_stamp.specs.declared.entry.Mark.{Mark}
 use Rattle.ra_bag.specs.Bag.{TakesFirst}
 use Rattle.ra_world.specs.declared.step.Step.{Step}
-use Rattle.ra_world.specs.declared.step.Step.TheVariants.{Ask, Leave, Deliver, Lose, Repeat}
+use Rattle.ra_world.specs.declared.step.Step.TheVariants.{Ask, Leave, Cancel, Deliver, Lose, Repeat, Forget}
 
 -- a step, and what came of it: the messages that it sent and its marks
 pub record Move : Type 0 where
@@ -21,9 +21,11 @@ sent_by (move ∷ moves) = move.sends ++ sent_by moves
 abbrev pub taken_in : Step → List Message
 taken_in (Ask node client name mode) = []
 taken_in (Leave node client name) = []
+taken_in (Cancel node client name) = []
 taken_in (Deliver message) = message ∷ []
 taken_in (Lose message) = message ∷ []
 taken_in (Repeat message) = []
+taken_in (Forget node) = []
 
 -- all messages that these steps took from those under way, to deliver or lose them, in order
 abbrev pub taken_by : List Move → List Message
@@ -34,9 +36,11 @@ taken_by (move ∷ moves) = taken_in move.step ++ taken_by moves
 abbrev pub lost_in : Step → List Message
 lost_in (Ask node client name mode) = []
 lost_in (Leave node client name) = []
+lost_in (Cancel node client name) = []
 lost_in (Deliver message) = []
 lost_in (Lose message) = message ∷ []
 lost_in (Repeat message) = []
+lost_in (Forget node) = []
 
 -- all messages that these steps lost, in order
 abbrev pub lost_by : List Move → List Message
@@ -47,9 +51,11 @@ lost_by (move ∷ moves) = lost_in move.step ++ lost_by moves
 abbrev pub repeated_in : Step → List Message
 repeated_in (Ask node client name mode) = []
 repeated_in (Leave node client name) = []
+repeated_in (Cancel node client name) = []
 repeated_in (Deliver message) = []
 repeated_in (Lose message) = []
 repeated_in (Repeat message) = message ∷ []
+repeated_in (Forget node) = []
 
 -- all messages of which these steps put a copy under way, in order
 abbrev pub repeated_by : List Move → List Message

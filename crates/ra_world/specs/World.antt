@@ -5,21 +5,22 @@ use Rattle.ra_stamp.specs.declared.entry.Mark.{Mark}
 use Rattle.ra_stamp.specs.declared.message.Message.{Message}
 use Rattle.ra_stamp.specs.Message.{to_of}
 use Rattle.ra_node.specs.declared.error.AskError.TheVariants as asking
+use Rattle.ra_node.specs.declared.error.CancelError.TheVariants as cancelling
 use Rattle.ra_node.specs.declared.error.LeaveError.TheVariants as leaving
-use Rattle.ra_node.specs.Faults.{IsAskRefusal, IsLeaveRefusal}
+use Rattle.ra_node.specs.Faults.{IsAskRefusal, IsLeaveRefusal, IsCancelRefusal}
 use Rattle.ra_node.specs.Node.{NodeState, opening_node, resource_at}
 use Rattle.ra_node.specs.Events.{NodeEvents}
 use Rattle.ra_node.specs.Memory.{BringsNothing}
 use Rattle.ra_node.specs.declared.outcome.Outcome.{Outcome}
 use Rattle.ra_world.specs.declared.step.Step.{Step}
-use Rattle.ra_world.specs.declared.step.Step.TheVariants.{Ask, Leave, Deliver, Lose, Repeat}
-use Rattle.ra_world.specs.declared.error.NodeRefusal.TheVariants.{Busy, Exhausted, NotHeld}
+use Rattle.ra_world.specs.declared.step.Step.TheVariants.{Ask, Leave, Cancel, Deliver, Lose, Repeat, Forget}
+use Rattle.ra_world.specs.declared.error.NodeRefusal.TheVariants.{Busy, Exhausted, NotHeld, NotWaiting}
 use Rattle.ra_world.specs.declared.error.StepError.{StepError}
 use Rattle.ra_world.specs.declared.error.StepError.TheVariants.{NoNode, NotUnderWay, Node, Memory}
 use Rattle.ra_world.specs.declared.text.report.Report.{Report}
 use Rattle.ra_world.specs.Traffic.{Move, LeavesUnderWay, IsUnderWay, sent_by, lost_by, repeated_by}
 use Rattle.ra_world.specs.Run.{IsRun, GoesOn, EndsWith, happened_at, marks_of, waiting_at_all, queued_at_all}
-use Rattle.ra_world.specs.Quiet.{requests_in}
+use Rattle.ra_world.specs.Quiet.{requests_in, withdrawn_in}
 
 -- how many nodes there are, the highest number with which each resource begins, and the steps so far with what came of
 -- them
@@ -56,6 +57,7 @@ HasCause n start moves (Ask node client name mode) (Node Busy) =
 HasCause n start moves (Ask node client name mode) (Node Exhausted) =
     AtNode n start moves node (λ s. IsAskRefusal (resource_at s name) client asking.Exhausted)
 HasCause n start moves (Ask node client name mode) (Node NotHeld) = ⊥
+HasCause n start moves (Ask node client name mode) (Node NotWaiting) = ⊥
 HasCause n start moves (Ask node client name mode) NotUnderWay = ⊥
 HasCause n start moves (Ask node client name mode) Memory = ⊥
 HasCause n start moves (Leave node client name) NoNode = n < node
@@ -63,8 +65,17 @@ HasCause n start moves (Leave node client name) (Node Busy) = ⊥
 HasCause n start moves (Leave node client name) (Node Exhausted) = ⊥
 HasCause n start moves (Leave node client name) (Node NotHeld) =
     AtNode n start moves node (λ s. IsLeaveRefusal (resource_at s name) client leaving.NotHeld)
+HasCause n start moves (Leave node client name) (Node NotWaiting) = ⊥
 HasCause n start moves (Leave node client name) NotUnderWay = ⊥
 HasCause n start moves (Leave node client name) Memory = ⊥
+HasCause n start moves (Cancel node client name) NoNode = n < node
+HasCause n start moves (Cancel node client name) (Node Busy) = ⊥
+HasCause n start moves (Cancel node client name) (Node Exhausted) = ⊥
+HasCause n start moves (Cancel node client name) (Node NotHeld) = ⊥
+HasCause n start moves (Cancel node client name) (Node NotWaiting) =
+    AtNode n start moves node (λ s. IsCancelRefusal (resource_at s name) client cancelling.NotWaiting)
+HasCause n start moves (Cancel node client name) NotUnderWay = ⊥
+HasCause n start moves (Cancel node client name) Memory = ⊥
 HasCause n start moves (Deliver message) NoNode = ⊥
 HasCause n start moves (Deliver message) (Node why) = ⊥
 HasCause n start moves (Deliver message) NotUnderWay = IsUnderWay moves message → ⊥
@@ -77,19 +88,26 @@ HasCause n start moves (Repeat message) NoNode = ⊥
 HasCause n start moves (Repeat message) (Node why) = ⊥
 HasCause n start moves (Repeat message) NotUnderWay = IsUnderWay moves message → ⊥
 HasCause n start moves (Repeat message) Memory = ⊥
+HasCause n start moves (Forget node) NoNode = n < node
+HasCause n start moves (Forget node) (Node why) = ⊥
+HasCause n start moves (Forget node) NotUnderWay = ⊥
+HasCause n start moves (Forget node) Memory = ⊥
 
 -- 2^64-1 steps were made, so no further step can be counted
 abbrev pub IsFull : List Move → Type 0
 IsFull moves = 18446744073709551615 ≤ length moves
 
--- Which steps may need memory. A client that asks may be queued, one that leaves is marked, a message that is delivered
--- may bring something, and a copy has to be put somewhere. A message that is lost brings nothing.
+-- Which steps may need memory. A client that asks may be queued, one that leaves or gives up is marked, a message
+-- that is delivered may bring something, and a copy has to be put somewhere. A message that is lost, and to forget,
+-- bring nothing.
 abbrev pub MayNeedMemory : ℕ → ℕ → List Move → Step → Type 0
 MayNeedMemory n start moves (Ask node client name mode) = Unit {0}
 MayNeedMemory n start moves (Leave node client name) = Unit {0}
+MayNeedMemory n start moves (Cancel node client name) = Unit {0}
 MayNeedMemory n start moves (Deliver message) = AtNode n start moves (to_of message) (λ s. BringsNothing s message → ⊥)
 MayNeedMemory n start moves (Lose message) = ⊥
 MayNeedMemory n start moves (Repeat message) = Unit {0}
+MayNeedMemory n start moves (Forget node) = ⊥
 
 -- What a world answers to a step, and what it is then. This is one record, so that `step_near` promises no less than
 -- `step`.
@@ -124,5 +142,6 @@ pub record Reports (n start : ℕ) (moves : List Move) (report : Report) : Type 
   pub under_way : (left : List Message) × LeavesUnderWay moves left × (report.under_way ≡ length left)
   pub lost : report.lost ≡ length (lost_by moves)
   pub repeated : report.repeated ≡ length (repeated_by moves)
+  pub withdrawn : report.withdrawn ≡ withdrawn_in (marks_of moves)
   pub at_nodes : (nodes : ℕ → NodeState) × EndsWith n start moves nodes
       × (report.waiting ≡ waiting_at_all n nodes) × (report.queued ≡ queued_at_all n nodes)

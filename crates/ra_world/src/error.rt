@@ -2,7 +2,7 @@ ghost use Rattle.std.specs.Prelude.{◌≡◌, ◌≢◌};
 ghost use Rattle.ra_world.specs.declared.error.NewError.TheVariants as new;
 ghost use Rattle.ra_world.specs.declared.error.StepError.TheVariants as step;
 
-use ra_node::{AskError, LeaveError};
+use ra_node::{AskError, CancelError, LeaveError};
 use ra_stamp::Memory;
 use std::fmt;
 use thiserror::Error;
@@ -31,6 +31,8 @@ pub enum NodeRefusal {
     Exhausted,
     /// The client that leaves does not hold the name at this node.
     NotHeld,
+    /// The client that gives up neither waits nor is queued for the name at this node.
+    NotWaiting,
 }
 
 impl fmt::Display for NodeRefusal {
@@ -42,7 +44,7 @@ impl fmt::Display for NodeRefusal {
 /// Why a step was not made, in the order in which the causes are looked for.
 #[derive(Clone, Copy, Debug, PartialEq, Eq, Error)]
 pub enum StepError {
-    /// An ask or a leave is at a node above the number of nodes.
+    /// An ask, a leave, a cancel or a forget names a node above the number of nodes.
     NoNode,
     /// A message that is to be delivered, lost or repeated is not under way.
     NotUnderWay,
@@ -151,6 +153,19 @@ impl From<LeaveError> for StepError {
         match refused {
             LeaveError::NotHeld => StepError::Node(NodeRefusal::NotHeld),
             LeaveError::Memory => StepError::Memory,
+        }
+    }
+}
+
+impl From<CancelError> for StepError {
+    ghost use Rattle.ra_world.specs.Refused.{refusal_of_cancel};
+
+    ghost from_gives = { λ a e. e ≡ refusal_of_cancel a };
+
+    fn from(refused: CancelError) -> StepError {
+        match refused {
+            CancelError::NotWaiting => StepError::Node(NodeRefusal::NotWaiting),
+            CancelError::Memory => StepError::Memory,
         }
     }
 }

@@ -11,7 +11,7 @@ ghost use Rattle.ra_stamp.specs.Mode.{Conflict};
 ghost use Rattle.ra_stamp.specs.NodeId.{IsNodeNumber};
 ghost use Rattle.ra_automaton.specs.State.{IsOtherNode};
 ghost use Rattle.ra_automaton.specs.Steps.{Awaits};
-ghost use Rattle.ra_node.specs.Resource.{Holds, holder_of};
+ghost use Rattle.ra_node.specs.Resource.{Holds, IsKeptWaiting, holder_of};
 ghost use Rattle.ra_node.specs.Turns.{MayAsk};
 ghost use Rattle.ra_node.specs.Node.{NodeState, opening_node, resource_at};
 ghost use Rattle.ra_node.specs.Events.{Event, NodeEvent, NodeEvents};
@@ -20,8 +20,8 @@ ghost use Rattle.ra_world.specs.declared.step.Step.{Step};
 ghost use Rattle.ra_world.specs.Traffic.{Move, TakesEach, LeavesUnderWay, IsUnderWay, sent_by, put_in, put_by, repeated_by, taken_by, taken_in};
 ghost use Rattle.ra_world.specs.Numbers.{IsNumberedMark, IsNumberedMessage};
 ghost use Rattle.ra_world.specs.AtNodes.{IsTableOf};
-ghost use Rattle.ra_world.specs.Asked.{asks_by};
-ghost use Rattle.ra_world.specs.Quiet.{IsQuiet, IsBlocked, MeetsMessageCount, requests_in};
+ghost use Rattle.ra_world.specs.Asked.{asks_by, cancels_by};
+ghost use Rattle.ra_world.specs.Quiet.{IsQuiet, IsBlocked, MeetsMessageCount, requests_in, withdrawn_in};
 ghost use Rattle.ra_world.specs.Run.{IsRun, IsFit, GoesOn, WorldRun, EndsWith, events_at, marks_of, happened_at, waiting_at_all, queued_at_all, with_node};
 
 use crate::Step;
@@ -38,8 +38,9 @@ pub fn two_nodes_never_hold_in_conflict()
         → ¬ Conflict a.mode b.mode }
 {}
 
-/// Which steps a run goes on with: an ask or a leave at an existing node, if its client may ask or holds at the end of
-/// the run; and the delivery, the loss or a copy of a message that is under way.
+/// Which steps a run goes on with: an ask, a leave or a cancel at an existing node, if its client may ask, holds, or
+/// waits or is queued at the end of the run; that an existing node forgets; and the delivery, the loss or a copy of a
+/// message that is under way.
 pub fn runs_go_on_where_steps_are_allowed()
     ensures empty { (n start : ℕ) → IsRun n start [] }
     ensures ask { (n start : ℕ) (moves : List Move) (nodes : ℕ → NodeState)
@@ -53,6 +54,13 @@ pub fn runs_go_on_where_steps_are_allowed()
         → GoesOn n start moves (Step.Leave node client name)
         ↔ (((1 ≤ node) × (node ≤ n)) × ((entry : Entry)
         × Holds (resource_at (nodes node) name) client entry)) }
+    ensures cancel { (n start : ℕ) (moves : List Move) (nodes : ℕ → NodeState)
+        → IsNodeNumber n → IsRun n start moves → EndsWith n start moves nodes
+        → (node client : ℕ) (name : List ℕ)
+        → GoesOn n start moves (Step.Cancel node client name)
+        ↔ (((1 ≤ node) × (node ≤ n)) × IsKeptWaiting (resource_at (nodes node) name) client) }
+    ensures forget { (n start : ℕ) (moves : List Move) → IsNodeNumber n → IsRun n start moves
+        → (node : ℕ) → GoesOn n start moves (Step.Forget node) ↔ ((1 ≤ node) × (node ≤ n)) }
     ensures deliver { (n start : ℕ) (moves : List Move) → IsNodeNumber n → IsRun n start moves
         → (message : Message) → GoesOn n start moves (Step.Deliver message) ↔ IsUnderWay moves message }
     ensures lose { (n start : ℕ) (moves : List Move) → IsNodeNumber n → IsRun n start moves
@@ -61,22 +69,28 @@ pub fn runs_go_on_where_steps_are_allowed()
         → (message : Message) → GoesOn n start moves (Step.Repeat message) ↔ IsUnderWay moves message }
 {}
 
-/// A node changes by its own steps alone: after a move at another node, a run goes on with an ask or a leave at this
-/// node if it did before.
+/// A node changes by its own steps alone: after a move at another node, a run goes on with an ask, a leave or a
+/// cancel at this node if it did before.
 pub fn steps_elsewhere_leave_a_node()
     ensures ask { (n start : ℕ) (moves : List Move) (move : Move) → IsNodeNumber n → IsRun n start (moves ++ move ∷ [])
         → (node client : ℕ) (name : List ℕ) (mode : Mode) → events_at node move.step ≡ []
         → GoesOn n start moves (Step.Ask node client name mode)
         ↔ GoesOn n start (moves ++ move ∷ []) (Step.Ask node client name mode) }
-    ensures leave { (n start : ℕ) (moves : List Move) (move : Move) → IsNodeNumber n → IsRun n start (moves ++ move ∷ [])
+    ensures leave { (n start : ℕ) (moves : List Move) (move : Move) → IsNodeNumber n
+        → IsRun n start (moves ++ move ∷ [])
         → (node client : ℕ) (name : List ℕ) → events_at node move.step ≡ []
         → GoesOn n start moves (Step.Leave node client name)
         ↔ GoesOn n start (moves ++ move ∷ []) (Step.Leave node client name) }
+    ensures cancel { (n start : ℕ) (moves : List Move) (move : Move) → IsNodeNumber n
+        → IsRun n start (moves ++ move ∷ [])
+        → (node client : ℕ) (name : List ℕ) → events_at node move.step ≡ []
+        → GoesOn n start moves (Step.Cancel node client name)
+        ↔ GoesOn n start (moves ++ move ∷ []) (Step.Cancel node client name) }
 {}
 
-/// The marks of a run are a run of the lock table, even if messages were lost or repeated. So no two conflicting
-/// entries on one name hold at once, and conflicting entries on one name are granted in the order of their stamps. As
-/// many requests wait in the table as at the nodes.
+/// The marks of a run are a run of the lock table, even if messages were lost or repeated, or requests withdrawn. So
+/// no two conflicting entries on one name hold at once, and conflicting entries on one name are granted in the order
+/// of their stamps. As many requests wait in the table as at the nodes.
 pub fn marks_of_runs_are_table_runs()
     ensures table { (n start : ℕ) (moves : List Move) → IsNodeNumber n → IsRun n start moves
         → (table : LockTable) × TableRun (marks_of moves) table }
@@ -94,8 +108,8 @@ pub fn tables_of_runs_are_those_of_their_nodes()
         → TableRun (marks_of moves) table → IsTableOf n nodes table }
 {}
 
-/// At each moment, and whatever was lost, a run has sent at most two messages for each request and other node, and one
-/// more for each copy.
+/// At each moment, and whatever was lost or withdrawn, a run has sent at most two messages for each request and other
+/// node, and one more for each copy.
 pub fn runs_send_at_most_two_messages_for_each_request_and_other_node()
     ensures with_copies { (n start : ℕ) (moves : List Move) → IsNodeNumber n → IsRun n start moves
         → length (sent_by moves) ≤ 2 * (n - 1) * requests_in (marks_of moves) + length (repeated_by moves) }
@@ -103,20 +117,25 @@ pub fn runs_send_at_most_two_messages_for_each_request_and_other_node()
         → repeated_by moves ≡ [] → length (sent_by moves) ≤ 2 * (n - 1) * requests_in (marks_of moves) }
 {}
 
-/// No number rises above the start value and the requests made so far, at any node and on any name. So from 0, an ask is
-/// refused as `Exhausted` only after 2^64-1 requests.
+/// No number rises above the start value and the requests made so far, at any node and on any name. So from 0, an ask
+/// is refused as `Exhausted` only after 2^64-1 requests.
 pub fn numbers_rise_at_most_by_the_requests()
     ensures { (n start : ℕ) (moves : List Move) (nodes : ℕ → NodeState) (i : ℕ) (name : List ℕ)
         → IsNodeNumber n → IsRun n start moves → EndsWith n start moves nodes → 1 ≤ i → i ≤ n
         → (resource_at (nodes i) name).state.highest ≤ start + requests_in (marks_of moves) }
 {}
 
-/// Each ask has made its request, or its client is queued: the requests made and the clients that are queued are together
-/// as many as the asks.
+/// Each ask has made its request, or its client is queued, or was queued when it gave up. The requests made, the
+/// clients that are queued and the cancels are together as many as the asks and the requests that were withdrawn. In
+/// a run without cancels the requests and the queued clients are as many as the asks.
 pub fn asks_make_requests_or_are_queued()
-    ensures { (n start : ℕ) (moves : List Move) (nodes : ℕ → NodeState)
+    ensures made { (n start : ℕ) (moves : List Move) (nodes : ℕ → NodeState)
         → IsNodeNumber n → IsRun n start moves → EndsWith n start moves nodes
-        → requests_in (marks_of moves) + queued_at_all n nodes ≡ asks_by moves }
+        → requests_in (marks_of moves) + queued_at_all n nodes + cancels_by moves
+        ≡ asks_by moves + withdrawn_in (marks_of moves) }
+    // Only a cancel withdraws.
+    ensures withdrawn { (n start : ℕ) (moves : List Move) → IsNodeNumber n → IsRun n start moves
+        → withdrawn_in (marks_of moves) ≤ cancels_by moves }
 {}
 
 /// After each run the messages under way are one list. Each of them has a number, and goes from one existing node to
@@ -186,12 +205,13 @@ pub fn messages_of_runs_are_different()
         → AllPairs (λ a b. a ≢ b) (sent_by moves) }
 {}
 
-/// If nothing was repeated before, no REPLY that is delivered in a run is a stray: its receiver waits with its number
-/// and awaits it.
+/// If nothing was repeated or withdrawn before, no REPLY that is delivered in a run is a stray: its receiver waits
+/// with its number and awaits it.
 pub fn no_delivered_reply_is_a_stray()
     ensures { (n start : ℕ) (prefix rest : List Move) (move : Move) (from to : ℕ) (name : List ℕ) (seq : ℕ)
         (node : NodeState)
         → IsNodeNumber n → IsRun n start (prefix ++ move ∷ rest) → repeated_by prefix ≡ []
+        → withdrawn_in (marks_of prefix) ≡ 0
         → move.step ≡ Step.Deliver (Message.Reply from to name seq)
         → NodeEvents (opening_node to n start) (happened_at to prefix) node
         → (mode : Mode) × Awaits (resource_at node name).state from seq mode }
@@ -214,11 +234,12 @@ pub fn waiting_requests_are_blocked_in_quiet_runs()
         → ¬ MayEnter table e }
 {}
 
-/// If nothing was lost or repeated, nothing is under way and no request waits, exactly two messages were sent for each
-/// request and other node, in all.
+/// If nothing was lost, repeated or withdrawn, nothing is under way and no request waits, exactly two messages were
+/// sent for each request and other node, in all.
 pub fn quiet_runs_sent_two_messages_for_each_request_and_other_node()
     ensures { (n start : ℕ) (moves : List Move) (table : LockTable)
         → IsNodeNumber n → IsRun n start moves → IsQuiet moves → repeated_by moves ≡ []
+        → withdrawn_in (marks_of moves) ≡ 0
         → TableRun (marks_of moves) table
         → table.waiting ≡ [] → MeetsMessageCount n moves }
 {}

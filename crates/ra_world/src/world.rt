@@ -9,7 +9,7 @@ ghost use Rattle.ra_stamp.specs.declared.message.Message.{Message};
 
 use crate::text::report::Figures;
 use crate::text::state_lines::state_text;
-use crate::world::at_node::{ask_at, leave_at, receive_at};
+use crate::world::at_node::{ask_at, cancel_at, forget_at, leave_at, receive_at};
 use crate::world::kept_steps::KeptSteps;
 use crate::world::node_places::{opening_nodes, place_of, queued_at, waiting_at};
 use crate::world::step_log::{StepLog, append};
@@ -119,8 +119,8 @@ impl<const KEEPS_MARKS: u8> WorldOf<KEEPS_MARKS> {
         self.start
     }
 
-    /// Returns the node with this number as it is after the steps so far, or `None` if there is no such node. It does not
-    /// allocate.
+    /// Returns the node with this number as it is after the steps so far, or `None` if there is no such node. It does
+    /// not allocate.
     pub fn node(&self, node: NodeId) -> Option<&Node>
         ensures value { IsNodeAfter self.now.count self.now.start self.now.moves node (option_copied result) }
         ensures run { IsRun self.now.count self.now.start self.now.moves }
@@ -130,20 +130,20 @@ impl<const KEEPS_MARKS: u8> WorldOf<KEEPS_MARKS> {
         nodes.get(node.place())
     }
 
-    /// Makes a step, and returns what came of it: the messages that it sent, which are now under way, and its marks. A
-    /// loss or a repeat sends and marks nothing. The cost is that of the node's event, plus an amortized constant for
-    /// finding and taking a message; it does not depend on the steps so far. If the message is not under way, or there
-    /// was no memory to index the messages, the cost is linear in the number of messages under way.
+    /// Makes a step, and returns the messages that it sent, which are now under way, and its marks. A loss, a repeat
+    /// and a forget send and mark nothing. The cost is that of the node's event, plus an amortized constant for finding
+    /// and taking a message; it does not depend on the steps so far. If the message is not under way, or there was no
+    /// memory to index the messages, the cost is linear in the number of messages under way.
     ///
     /// # Errors
     ///
     /// The first that holds, and the world is as before:
     ///
-    /// 1. `NoNode`: an ask or a leave names a node above the number of nodes.
+    /// 1. `NoNode`: an ask, a leave, a cancel or a forget names a node above the number of nodes.
     /// 2. `NotUnderWay`: a message that is to be delivered, lost or repeated is not under way.
-    /// 3. `Node`: the node refuses an ask (`Busy`, `Exhausted`) or a leave (`NotHeld`).
+    /// 3. `Node`: the node refuses an ask (`Busy`, `Exhausted`), a leave (`NotHeld`) or a cancel (`NotWaiting`).
     /// 4. `Memory`: there is no room for what the step makes, or 2^64-1 steps were made, since no more are counted. A
-    ///    loss, and a message that makes its node send and mark nothing, are never refused for lack of room.
+    ///    loss, a forget, and a message that makes its node send and mark nothing, are never refused for lack of room.
     pub fn step(&mut self, alloc: Global, step: &Step) -> Result<Outcome, StepError>
         ensures { AnswersStep self.old step.now result self.new }
     {
@@ -153,9 +153,9 @@ impl<const KEEPS_MARKS: u8> WorldOf<KEEPS_MARKS> {
     /// Makes a step as `step` does, but first looks for the message that is to be delivered, lost or repeated at the
     /// place `near`, counted from 0 in the order of sending. There it is found without a search. As long as all
     /// messages were found this way, at most 1,024 were under way, and none was repeated, taking one is linear in its
-    /// distance from the nearer end, and `message_at` takes constant time. Among more, taking one takes amortized constant
-    /// time, and `message_at` looks through a bit for each message. After a repeat, the first of equal messages is taken,
-    /// wherever it is.
+    /// distance from the nearer end, and `message_at` takes constant time. Among more, taking one takes amortized
+    /// constant time, and `message_at` looks through a bit for each message. After a repeat, the first of equal
+    /// messages is taken, wherever it is.
     ///
     /// # Errors
     ///
@@ -174,6 +174,8 @@ impl<const KEEPS_MARKS: u8> WorldOf<KEEPS_MARKS> {
                 mode,
             } => self.ask(alloc, step, *node, *client, name, *mode),
             Step::Leave { node, client, name } => self.leave(alloc, step, *node, *client, name),
+            Step::Cancel { node, client, name } => self.cancel(alloc, step, *node, *client, name),
+            Step::Forget { node } => self.forget(alloc, step, *node),
             Step::Deliver(message) => self.deliver(alloc, step, message, near),
             Step::Lose(message) => self.lose(alloc, step, message, near),
             Step::Repeat(message) => self.repeat(alloc, step, message, near),
@@ -201,6 +203,11 @@ impl<const KEEPS_MARKS: u8> WorldOf<KEEPS_MARKS> {
                 Some(place) => self.nodes[place].is_held_by(client, &name),
                 None => false,
             },
+            Step::Cancel { node, client, name } => match place_of(&self.nodes, node) {
+                Some(place) => self.nodes[place].is_kept_waiting(client, &name),
+                None => false,
+            },
+            Step::Forget { node } => place_of(&self.nodes, node).is_some(),
             Step::Deliver(message) | Step::Lose(message) | Step::Repeat(message) => {
                 self.kept.under_way.contains(&message)
             }
@@ -208,8 +215,8 @@ impl<const KEEPS_MARKS: u8> WorldOf<KEEPS_MARKS> {
     }
 
     /// Returns the message under way at this place, counted from 0 in the order of sending, or `None` past the end. It
-    /// does not allocate. The cost is constant if `step_near` found the messages taken so far at their places and at most
-    /// 1,024 were under way, and otherwise at most linear in the number of messages under way.
+    /// does not allocate. The cost is constant if `step_near` found the messages taken so far at their places and at
+    /// most 1,024 were under way, and otherwise at most linear in the number of messages under way.
     pub fn message_at(&self, place: u64) -> Option<Message>
         ensures value { (left : List Message) × LeavesUnderWay self.now.moves left
             × (result ≡ slice_get left place) }
@@ -275,11 +282,11 @@ impl<const KEEPS_MARKS: u8> WorldOf<KEEPS_MARKS> {
         self.kept.log.counts().sent
     }
 
-    /// Returns the lines of the state after the steps so far: how many they were, what each node knows of each of these names,
-    /// the messages under way, these lines about clients, and the requests on these names that wait and hold. So these are the
-    /// whole lock table only if `names` has each name on which a request waits or holds. The cost is linear in the text and in
-    /// the number of nodes times that of names, and for a name on which a node has a request linear in the number of nodes.
-    /// Finding the messages takes what `message_at` takes for each.
+    /// Returns the lines of the state after the steps so far: how many they were, what each node knows of each of these
+    /// names, the messages under way, these lines about clients, and the requests on these names that wait and hold. So
+    /// these are the whole lock table only if `names` has each name on which a request waits or holds. The cost is
+    /// linear in the text and in the number of nodes times that of names, and for a name on which a node has a request
+    /// linear in the number of nodes. Finding the messages takes what `message_at` takes for each.
     ///
     /// # Errors
     ///
@@ -346,6 +353,43 @@ impl<const KEEPS_MARKS: u8> WorldOf<KEEPS_MARKS> {
         let sends = 2 * self.nodes.len() as u64;
         let node = &mut self.nodes[place];
         leave_at(node, &mut self.kept, alloc, sends, step, client, name)
+    }
+
+    /// Makes the step in which a client gives up a name at a node.
+    fn cancel(
+        &mut self,
+        alloc: Global,
+        step: &Step,
+        node: NodeId,
+        client: u32,
+        name: &Name,
+    ) -> Result<Outcome, StepError>
+        requires { step.now ≡ Step.Cancel node client name.now }
+        ensures tried { Tries self.old (Step.Cancel node client name.now) result self.new }
+        ensures run { IsRun self.new.count self.new.start self.new.moves }
+        ensures count { IsNodeNumber self.new.count }
+    {
+        let Some(place) = place_of(&self.nodes, node) else {
+            return Err(StepError::NoNode);
+        };
+        // The deferred REPLYs and the next request are sent.
+        let sends = 2 * self.nodes.len() as u64;
+        let node = &mut self.nodes[place];
+        cancel_at(node, &mut self.kept, alloc, sends, step, client, name)
+    }
+
+    /// Makes the step in which a node forgets names.
+    fn forget(&mut self, alloc: Global, step: &Step, node: NodeId) -> Result<Outcome, StepError>
+        requires { step.now ≡ Step.Forget node }
+        ensures tried { Tries self.old (Step.Forget node) result self.new }
+        ensures run { IsRun self.new.count self.new.start self.new.moves }
+        ensures count { IsNodeNumber self.new.count }
+    {
+        let Some(place) = place_of(&self.nodes, node) else {
+            return Err(StepError::NoNode);
+        };
+        let node = &mut self.nodes[place];
+        forget_at(node, &mut self.kept, alloc, step)
     }
 
     /// Makes the step in which a message under way reaches its node.
@@ -444,8 +488,9 @@ impl WorldOf<1> {
         Ok(figures.with_marks(marks))
     }
 
-    /// Ends the world, and reports what came of its steps, as `report` does. The marks are moved and not copied, so it takes
-    /// no memory. The cost is linear in the number of nodes, beside what it takes to give the world's memory back.
+    /// Ends the world, and reports what came of its steps, as `report` does. The marks are moved and not copied, so it
+    /// takes no memory. The cost is linear in the number of nodes, beside what it takes to give the world's memory
+    /// back.
     pub fn into_report(self) -> Report
         ensures report { Reports self.count self.start self.moves result }
         ensures run { IsRun self.count self.start self.moves }
@@ -478,6 +523,7 @@ impl WorldOf<1> {
             under_way: u128::from(self.kept.under_way.len()),
             lost: u128::from(counts.lost),
             repeated: u128::from(counts.repeated),
+            withdrawn: counts.withdrawn,
             waiting: waiting_at(&self.nodes),
             queued: queued_at(&self.nodes),
         }

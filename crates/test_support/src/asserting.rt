@@ -1,5 +1,6 @@
-//! How a test ends that does not find what it should. A library may not end a process, so these are macros, by which the test does
-//! so. Only `assert_same` is a function of each crate of tests, since its many calls would all be longer to prove.
+//! How a test ends that does not find what it should. A library may not end a process, so these are macros, by which
+//! the test does so. Only `assert_same` is a function of each crate of tests, since its many calls would all be longer
+//! to prove.
 
 /// Asserts that each of these values prints as the text beside it.
 #[macro_export]
@@ -29,8 +30,8 @@ macro_rules! assert_grown {
     };
 }
 
-/// Asserts, by the `assert_same` of the crate that calls it, that a call was refused for lack of memory, which is the fault
-/// `memory`. Is `Memory`, so that a test of growth can go on with it.
+/// Asserts, by the `assert_same` of the crate that calls it, that a call was refused for lack of memory, which is the
+/// fault `memory`. Is `Memory`, so that a test of growth can go on with it.
 #[macro_export]
 macro_rules! assert_memory {
     ($rt:expr, $at:expr, $fault:expr, $memory:expr) => {{

@@ -4,8 +4,8 @@ use std::alloc::Global;
 use std::fmt;
 use std::fmt::{Debug, Display};
 
-/// Where a test is: the label of a scene or a row, and what of it is tried, such as a step, with its number. Steps are numbered
-/// from 1 up. A place that [`part`] or [`row`] made has less.
+/// Where a test is: the label of a scene or a row, and what of it is tried, such as a step, with its number. Steps are
+/// numbered from 1 up. A place that [`part`] or [`row`] made has less.
 #[derive(Clone, Copy)]
 pub struct At<'a>(pub &'a str, pub &'a str, pub usize);
 
@@ -54,8 +54,8 @@ fn difference_text<T: Debug>(alloc: Global, at: At<'_>, expected: &T, came: &T) 
     printed(alloc, &Difference { at, expected, came })
 }
 
-/// Returns what a test prints that fails since a value is not printed as the text beside it, of the first such value, or `None` if
-/// each is.
+/// Returns what a test prints that fails since a value is not printed as the text beside it, of the first such value,
+/// or `None` if each is.
 pub fn misprint<T: Display>(alloc: Global, rows: &[(T, &str)]) -> Option<String> {
     for (value, text) in rows {
         let came = printed(alloc, value);

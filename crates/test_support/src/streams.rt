@@ -2,8 +2,8 @@
 use std::io;
 use std::io::{BufRead, Read, Write};
 
-/// Gives at most `size` bytes at a time. After `before_fault` reads it fails once, and then goes on. What it shows as a buffer is
-/// what it would give, and counts as a read.
+/// Gives at most `size` bytes at a time. After `before_fault` reads it fails once, and then goes on. What it shows as a
+/// buffer is what it would give, and counts as a read.
 #[derive(Clone, Copy)]
 pub struct FailingReader<'a> {
     /// What is left to be read.
@@ -70,8 +70,8 @@ impl BufRead for FailingReader<'_> {
     }
 }
 
-/// Takes one byte at a time, and looks whether it is the one that comes next in a text. After `before_fault` writes it fails
-/// once, or takes nothing once if there is no fault, and then goes on.
+/// Takes one byte at a time, and looks whether it is the one that comes next in a text. After `before_fault` writes it
+/// fails once, or takes nothing once if there is no fault, and then goes on.
 #[derive(Clone, Copy)]
 pub struct FailingWriter<'a> {
     /// What is left of the text.

@@ -1,9 +1,10 @@
 //! What becomes of calls if a growth may be refused.
 //!
-//! A test of growth makes each call, and makes it again if it answered that memory ran out. Whatever else a call answers or
-//! changes, the test asserts on the spot, and so prints which call it was, what was expected and what came. If the test met no
-//! refusal, as under `rt test`, it passes. If it met one and found all as it should be, it fails with words of its own. By these
-//! `tools/refuse-growth`, which has each allocation refused in turn, tells it from one that failed.
+//! A test of growth makes each call, and makes it again if it answered that memory ran out. Whatever else a call
+//! answers or changes, the test asserts on the spot, and so prints which call it was, what was expected and what came.
+//! If the test met no refusal, as under `rt test`, it passes. If it met one and found all as it should be, it fails
+//! with words of its own. By these `tools/refuse-growth`, which has each allocation refused in turn, tells it from one
+//! that failed.
 use ra_stamp::Memory;
 
 /// What became of calls.
@@ -39,7 +40,8 @@ pub fn both(first: Tried, second: Tried) -> Tried {
     }
 }
 
-/// Returns what became of calls that were made twice. Each time they may find no memory, if the first of them is refused.
+/// Returns what became of calls that were made twice. Each time they may find no memory, if the first of them is
+/// refused.
 pub fn again(first: Result<Tried, Memory>, second: Result<Tried, Memory>) -> Tried {
     match (first, second) {
         (Ok(tried), _) => tried,

@@ -1,5 +1,5 @@
-//! Tests of `ra_trace`, `ra_draw`, `ra_script`, `ra_explain`, `ra_book_text` and `ra_notes` through their public calls, of
-//! what no command shows. The tables of `cases/` have what commands print.
+//! Tests of `ra_trace`, `ra_draw`, `ra_script`, `ra_explain`, `ra_book_text` and `ra_notes` through their public calls,
+//! of what no command shows. The tables of `cases/` have what commands print.
 #![tactic(auto)]
 
 #[cfg(test)]

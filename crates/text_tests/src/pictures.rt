@@ -1,4 +1,5 @@
-//! Pictures of traces: what is in parts that no command draws, and readers and writers that fail. `cases/` has the rest.
+//! Pictures of traces: what is in parts that no command draws, and readers and writers that fail. `cases/` has the
+//! rest.
 use crate::shared_texts::{ONE_LOCK, failing};
 use crate::text_asserting::assert_same;
 use ra_draw::{DrawError, Part, draw, draw_marks};

@@ -50,7 +50,8 @@ leave 2 2 r X 1
 end
 ";
 
-/// The trace of one client whose REQUEST is repeated. The other node answers each copy, and the second REPLY is a stray.
+/// The trace of one client whose REQUEST is repeated. The other node answers each copy, and the second REPLY is a
+/// stray.
 pub const REPEATED_REQUEST: &str = "trace 2 2 0
 ask 1 1 r X
 request 1 1 r X 1

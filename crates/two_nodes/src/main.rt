@@ -1,6 +1,6 @@
-//! Two nodes lock a name between them. This program is their host. It lets the events happen: the asks and leaves of its
-//! clients and the frames that come. It prints the marks, carries the messages as the bytes of frames, and keeps the event
-//! clock of each node. In place of its list of frames under way, another host has sockets or channels.
+//! Two nodes lock a name between them. This program is their host. It lets the events happen: the asks and leaves of
+//! its clients and the frames that come. It prints the marks, carries the messages as the bytes of frames, and keeps
+//! the event clock of each node. In place of its list of frames under way, another host has sockets or channels.
 #![tactic(auto)]
 
 use anyhow::{Context, Result, ensure};
@@ -90,8 +90,8 @@ impl Host {
         Ok(())
     }
 
-    /// Hands each frame to its node, the oldest first, until none is under way. Any order would do, but each is handed over
-    /// once, and none that was not sent.
+    /// Hands each frame to its node, the oldest first, until none is under way. Any order would do, but each is handed
+    /// over once, and none that was not sent.
     fn deliver_all(&mut self, rt: &impl Print, alloc: Global) -> Result<()> {
         for _turn in 0..u64::MAX {
             if self.under_way.is_empty() {
@@ -115,8 +115,8 @@ fn main(rt: HostRuntime) -> Result<()> {
         under_way: Vec::new(alloc),
     };
 
-    // Both ask before a frame came, so both requests have the number 1. Then the lower node goes first: node 1 defers its
-    // REPLY, so client 7 enters and client 9 waits.
+    // Both ask before a frame came, so both requests have the number 1. Then the lower node goes first: node 1 defers
+    // its REPLY, so client 7 enters and client 9 waits.
     host.step(&rt, alloc, one, Event::Ask { client: 7, name })?;
     host.step(&rt, alloc, two, Event::Ask { client: 9, name })?;
     host.deliver_all(&rt, alloc)?;

@@ -1,5 +1,5 @@
-//! Each growth of a whole cluster is refused: its calls answer that memory ran out, in the thread of the client or in one
-//! that carries frames, and do what they should when they are made again.
+//! Each growth of a whole cluster is refused: its calls answer that memory ran out, in the thread of the client or in
+//! one that carries frames, and do what they should when they are made again.
 use crate::thread_scripts::letter_scripts::{Client, TWO_WRITERS, USES_R, script_of};
 use crate::thread_scripts::own_threads::run_in;
 use crate::whole_clusters::cluster_asserting::{assert_same, fail_at};
@@ -16,8 +16,8 @@ use std::sync::Wait;
 use std::thread::Threads;
 use test_support::{At, Tried, again, assert_grown, row};
 
-/// Returns that memory ran out, after asserting that a call of a cluster may answer this if a growth was refused, either in the
-/// caller's thread or in one that carries frames, which then stops all nodes.
+/// Returns that memory ran out, after asserting that a call of a cluster may answer this if a growth was refused,
+/// either in the caller's thread or in one that carries frames, which then stops all nodes.
 fn judge_refusal(rt: &impl Abort, at: At<'_>, fault: SiteError) -> Memory {
     match fault {
         WANTING
@@ -89,7 +89,8 @@ fn judge_kept(
     }
 }
 
-/// Has threads run a script of clients in a cluster, and looks at the grants that are kept. If one is not kept, memory ran out.
+/// Has threads run a script of clients in a cluster, and looks at the grants that are kept. If one is not kept, memory
+/// ran out.
 fn try_keeping<R: AllocGlobal + Threads + Wait + Abort + Sync>(
     rt: &R,
     cluster: &Cluster<OpenGate>,
@@ -132,8 +133,8 @@ fn try_in<R: AllocGlobal + Threads + Wait + Abort + Sync>(
     }
 }
 
-/// Makes a cluster, has clients do this in it, and closes it, which takes no memory. If the cluster cannot be made, or was stopped,
-/// memory ran out.
+/// Makes a cluster, has clients do this in it, and closes it, which takes no memory. If the cluster cannot be made, or
+/// was stopped, memory ran out.
 fn try_work<R: AllocGlobal + Threads + Wait + Abort + Sync>(
     rt: &R,
     work: Work,
@@ -168,8 +169,8 @@ fn growth_of_a_whole_cluster_of_two_nodes(rt: HostRuntime) {
     grow(&rt, Work::Carried);
 }
 
-/// Has threads run a script of two writers. If they do not, memory ran out. The test starts no thread of its own around this, since
-/// that thread would have growths of its own.
+/// Has threads run a script of two writers. If they do not, memory ran out. The test starts no thread of its own around
+/// this, since that thread would have growths of its own.
 fn try_threads<R: Threads + Wait + Abort + Sync>(
     rt: &R,
     alloc: Global,

@@ -44,7 +44,8 @@ fn growth_of_a_post(rt: HostRuntime) {
     assert_grown!(&rt, again(try_post(&rt, alloc), try_post(&rt, alloc)));
 }
 
-/// Returns what a site shows: its events, the holder of `r`, and how many requests wait, how many clients are queued, and the fault.
+/// Returns what a site shows: its events, the holder of `r`, and how many requests wait, how many clients are queued,
+/// and the fault.
 fn state_of<R: Wait>(rt: &R, site: &Site) -> ((u64, Option<Entry>), (u64, u128, Option<Stop>)) {
     (
         (site.events(rt), site.holder(rt, &r())),
@@ -63,8 +64,8 @@ fn refusal_of_lock<R: Wait>(
         .err()
 }
 
-/// Has a client lock `r` at a site, and lock it again if memory ran out, when the site has to be as before. Then the client unlocks it,
-/// which needs no memory.
+/// Has a client lock `r` at a site, and lock it again if memory ran out, when the site has to be as before. Then the
+/// client unlocks it, which needs no memory.
 fn try_site<R: Wait + Abort>(rt: &R, alloc: Global, all: &Cluster, site: &Site) -> Tried {
     let (at, before) = (row("a client of one site locks"), state_of(rt, site));
     let (mut tried, mut came) = (Tried::NoFailure, refusal_of_lock(rt, alloc, all, site));
@@ -94,8 +95,8 @@ fn growth_of_a_site(rt: HostRuntime) {
     assert_grown!(&rt, again(try_sites(&rt, alloc), try_sites(&rt, alloc)));
 }
 
-/// Has a site take all frames that are left in an inbox. Returns how many events it has then, or `None` if it is stopped since memory
-/// ran out.
+/// Has a site take all frames that are left in an inbox. Returns how many events it has then, or `None` if it is
+/// stopped since memory ran out.
 fn events_unless_memory<R: AllocGlobal + Wait + Abort>(
     rt: &R,
     all: &Cluster,
@@ -110,8 +111,8 @@ fn events_unless_memory<R: AllocGlobal + Wait + Abort>(
     }
 }
 
-/// Returns how many frames are left in an inbox, that of node 3, which a new site of the node takes. The post has to be closed before.
-/// Returns `None` if memory ran out.
+/// Returns how many frames are left in an inbox, that of node 3, which a new site of the node takes. The post has to be
+/// closed before. Returns `None` if memory ran out.
 fn frames_left<R: AllocGlobal + Wait + Abort>(rt: &R, inbox: &Inbox) -> Option<u64> {
     let fresh = make_cluster(rt.alloc(), 3);
     match fresh.first() {
@@ -136,8 +137,8 @@ const LOST: &[Ended] = &[
     },
 ];
 
-/// Asserts that the books have lost the frame for node 2, and that the one for node 3 is either left in its inbox, or is lost, too, as
-/// there was no memory for it.
+/// Asserts that the books have lost the frame for node 2, and that the one for node 3 is either left in its inbox, or
+/// is lost, too, as there was no memory for it.
 fn judge_losses(rt: &impl Abort, books: &[Book], left: u64) -> Tried {
     let words = "the frame for node 2 is lost";
     assert_ended(rt, words, books, LOST);
@@ -154,8 +155,9 @@ fn judge_losses(rt: &impl Abort, books: &[Book], left: u64) -> Tried {
     Tried::NoFailure
 }
 
-/// Has client 1 of node 1 of three lock `r`, and closes the post. The inbox of node 2 is gone, so at least the frame for node 2 is lost.
-/// Returns how many frames are left for node 3. If the client was refused, or that cannot be looked at, memory ran out.
+/// Has client 1 of node 1 of three lock `r`, and closes the post. The inbox of node 2 is gone, so at least the frame
+/// for node 2 is lost. Returns how many frames are left for node 3. If the client was refused, or that cannot be looked
+/// at, memory ran out.
 fn loses<R: AllocGlobal + Wait + Abort>(rt: &R, all: &Cluster) -> Result<u64, Memory> {
     let at = row("a client locks, and a frame is lost");
     let Some(inbox) = all.inboxes.get(1) else {

@@ -15,8 +15,8 @@ use test_support::r;
 /// What a client gets that locks a name on a thread of its own.
 pub type Answer = Option<Result<Grant, SiteError>>;
 
-/// A gate that counts the steps and lets some of them pass. It keeps a thread that steps at one node, under the lock of the node,
-/// until it is told to go on. Then it refuses the step.
+/// A gate that counts the steps and lets some of them pass. It keeps a thread that steps at one node, under the lock of
+/// the node, until it is told to go on. Then it refuses the step.
 #[derive(Drop)]
 pub struct Keeps {
     /// The steps of all nodes.
@@ -165,8 +165,8 @@ fn add_whole(all: &mut Vec<Cluster>, cluster: Cluster) {
     }
 }
 
-/// Makes a cluster of this many nodes, or none if memory runs out. Its numbers begin after `start`. Its gate lets `most` steps pass, and
-/// keeps a thread that steps at the node `kept`.
+/// Makes a cluster of this many nodes, or none if memory runs out. Its numbers begin after `start`. Its gate lets
+/// `most` steps pass, and keeps a thread that steps at the node `kept`.
 ///
 /// A cluster that a function owns is expensive to prove, so it is in a list that tests lend.
 pub fn gated_cluster(alloc: Global, nodes: u16, start: u64, most: u64, kept: u16) -> Vec<Cluster> {
@@ -225,8 +225,9 @@ fn events_at(books: &[Book], number: u16) -> Option<(u64, Option<BookEvent>)> {
     }
 }
 
-/// Makes a new cluster, whose site of this node takes all frames that are left in the inbox at a place, that of this node, and sends
-/// through the new post. Returns how many events its book then has, and the first of them. The post has to be closed before.
+/// Makes a new cluster, whose site of this node takes all frames that are left in the inbox at a place, that of this
+/// node, and sends through the new post. Returns how many events its book then has, and the first of them. The post has
+/// to be closed before.
 pub fn taken_from<R: AllocGlobal + Wait + Abort>(
     rt: &R,
     all: &Cluster,

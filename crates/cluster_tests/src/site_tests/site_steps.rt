@@ -1,5 +1,5 @@
-//! What a cluster of sites with a post does and shows, step by step, with clients on threads of their own. A trace cannot tell it: calls
-//! are refused, nodes are stopped, the post is closed, and steps wait for threads.
+//! What a cluster of sites with a post does and shows, step by step, with clients on threads of their own. A trace
+//! cannot tell it: calls are refused, nodes are stopped, the post is closed, and steps wait for threads.
 use crate::site_tests::site_cluster::{Cluster, gated_cluster, loses_inbox, send, taken_from};
 use crate::site_tests::site_ends::{Shown, after_all, assert_all_shown};
 use crate::whole_clusters::cluster_asserting::{assert_comes_to, assert_same, fail_at};
@@ -32,13 +32,13 @@ pub enum Task {
     Uses(u16, u32),
     /// The site of this node takes the frames from its inbox, and asks no gate.
     Carries(u16),
-    /// At this node, client 1 locks `r` and unlocks it, very often or until it is refused, and asks no gate. At this turn it closes the
-    /// post while it holds `r`, and in any case at its end.
+    /// At this node, client 1 locks `r` and unlocks it, very often or until it is refused, and asks no gate. At this
+    /// turn it closes the post while it holds `r`, and in any case at its end.
     UsesOften(u16, Option<u32>),
 }
 
-/// What a cluster does or shows. All requests are for `r`, exclusively. If no client is named, it is client 1 of the node, whose lock
-/// is the first of `r`.
+/// What a cluster does or shows. All requests are for `r`, exclusively. If no client is named, it is client 1 of the
+/// node, whose lock is the first of `r`.
 #[derive(Clone, Copy)]
 pub enum Step {
     /// The post sends a REQUEST with this clock from the first node to the second.
@@ -61,17 +61,18 @@ pub enum Step {
     RefusesToUnlock(u16, u32, SiteError),
     /// The site of this node takes the frames from the inbox at its place.
     Pumps(u16),
-    /// After the post is closed, a second site of this node takes all that is left in the inbox at this place: this many frames.
+    /// After the post is closed, a second site of this node takes all that is left in the inbox at this place: this
+    /// many frames.
     HasLeft(usize, u16, u64),
-    /// After the post is closed, a second site of node 2 takes all that is left in its inbox: one REQUEST, which node 1 sent with
-    /// clock 1.
+    /// After the post is closed, a second site of node 2 takes all that is left in its inbox: one REQUEST, which node 1
+    /// sent with clock 1.
     HasLeftOne,
     /// The gate has counted this many steps.
     HasStepped(u64),
     /// A thread of its own does this.
     Starts(Task),
-    /// The scene goes on when the gate has counted this many steps. A site counts a step while its desk is locked, so what follows
-    /// comes after that step.
+    /// The scene goes on when the gate has counted this many steps. A site counts a step while its desk is locked, so
+    /// what follows comes after that step.
     ComesToStep(u64),
     /// The threads yield a few hundred times, so that a client of node 1 which is about to sleep most likely does.
     LetsSleep,
@@ -128,7 +129,8 @@ pub const TWO_NODES: Row = Row {
     shown: &[],
 };
 
-/// Asserts that a REQUEST from the first node to the second is sent in a frame with this clock, or is refused for this reason.
+/// Asserts that a REQUEST from the first node to the second is sent in a frame with this clock, or is refused for this
+/// reason.
 fn sends<R: AllocGlobal + Wait + Abort>(
     rt: &R,
     at: At<'_>,
@@ -174,8 +176,8 @@ fn unlocks<R: AllocGlobal + Wait + Abort>(
     assert_same(rt, at, &came, &due);
 }
 
-/// Returns why client 2, which holds nothing, cannot unlock `r` at a site: `NotHeld`, or `Failed` if the site is stopped. No gate is
-/// asked.
+/// Returns why client 2, which holds nothing, cannot unlock `r` at a site: `NotHeld`, or `Failed` if the site is
+/// stopped. No gate is asked.
 fn refusal<R: Wait>(rt: &R, alloc: Global, all: &Cluster, site: &Site) -> Option<SiteError> {
     all.unlock_at(rt, alloc, site, 2, &OpenGate).err()
 }
@@ -194,7 +196,8 @@ fn last_refusal<R: Wait>(rt: &R, alloc: Global, all: &Cluster, site: &Site) -> O
     refusal(rt, alloc, all, site)
 }
 
-/// Yields a few hundred times, each time after it had the lock of the site of node 1. Nothing can tell that another client sleeps then.
+/// Yields a few hundred times, each time after it had the lock of the site of node 1. Nothing can tell that another
+/// client sleeps then.
 fn let_sleep<R: Wait>(rt: &R, alloc: Global, all: &Cluster, site: &Site) {
     for _ in 0..300u32 {
         // Client 1 holds the name, so it is refused, which wakes nobody.
@@ -234,7 +237,8 @@ fn assert_one_left<R: AllocGlobal + Wait + Abort>(rt: &R, at: At<'_>, all: &Clus
     assert_same(rt, at, &taken_from(rt, all, 1, 2), &Some((1, first)));
 }
 
-/// Returns how many threads have ended, once there are others than this many, or after a while in which others may go on.
+/// Returns how many threads have ended, once there are others than this many, or after a while in which others may go
+/// on.
 fn ended_for_a_while(all: &Cluster, ended: u64) -> u64 {
     for _ in 0..3_000u32 {
         let came = all.ended.load(Ordering::SeqCst);

@@ -74,8 +74,8 @@ fn a_grant_goes_before_a_fault(rt: HostRuntime) {
     }
 }
 
-/// The leave is taken after the post was closed, and the request of client 2, which is stamped in its event, waits for a node that does
-/// not get it.
+/// The leave is taken after the post was closed, and the request of client 2, which is stamped in its event, waits for
+/// a node that does not get it.
 const LEAVES: &[Row] = &[Row {
     words: "client 1 leaves after the post was closed",
     steps: &[
@@ -137,8 +137,8 @@ fn books_settle_if_the_post_is_closed_under_traffic(rt: HostRuntime) {
     play_sites(&rt, TRAFFIC);
 }
 
-/// Two numbers are left: that of client 1, which holds the name, and the last one, that of client 2 after it. Client 3 queues before the
-/// last number of its name is used, and client 4 comes later.
+/// Two numbers are left: that of client 1, which holds the name, and the last one, that of client 2 after it. Client 3
+/// queues before the last number of its name is used, and client 4 comes later.
 const NO_NUMBER_LEFT: &[Row] = &[Row {
     words: "the last number is used before the turn of client 3",
     start: u64::MAX - 2,
@@ -171,8 +171,9 @@ fn a_queue_with_no_number_left_waits_until_a_stop(rt: HostRuntime) {
     play_sites(&rt, NO_NUMBER_LEFT);
 }
 
-/// A thread is kept in a step of node 2 while another one loses the frame for node 2. Then node 1 is stopped, node 3 is not, and the
-/// frame for node 3 has come. Otherwise a thread has the locks of two books, or stops the sites before the last frame is sent.
+/// A thread is kept in a step of node 2 while another one loses the frame for node 2. Then node 1 is stopped, node 3 is
+/// not, and the frame for node 3 has come. Otherwise a thread has the locks of two books, or stops the sites before the
+/// last frame is sent.
 const IN_TURN: &[Row] = &[Row {
     words: "node 2 is kept while node 1 loses its frame",
     nodes: 3,

@@ -21,7 +21,7 @@ fn steps_counted(steps: &[Step]) -> Counts {
             Step::Ask { .. } => 0,
             Step::Deliver(_) => 1,
             Step::Leave { .. } => 3,
-            Step::Lose(_) | Step::Repeat(_) => 4,
+            Step::Lose(_) | Step::Repeat(_) | Step::Cancel { .. } | Step::Forget { .. } => 4,
         };
         if let Some(count) = counts.get_mut(kind) {
             *count = count.saturating_add(1);
@@ -38,6 +38,7 @@ fn marks_counted(marks: &[Mark]) -> Counts {
             Mark::Requested(_) => 0,
             Mark::Entered(_) => 2,
             Mark::Left(_) => 3,
+            Mark::Withdrawn(_) => 4,
         };
         if let Some(count) = counts.get_mut(kind) {
             *count = count.saturating_add(1);
@@ -46,8 +47,8 @@ fn marks_counted(marks: &[Mark]) -> Counts {
     counts
 }
 
-/// Asserts that the steps and marks, counted one by one, are those of this many requests, each granted and left, and this many messages,
-/// each delivered.
+/// Asserts that the steps and marks, counted one by one, are those of this many requests, each granted and left, and
+/// this many messages, each delivered.
 fn assert_counted(rt: &impl Abort, at: At<'_>, settled: &Settled, requests: u128, sent: u128) {
     let steps = steps_counted(settled.steps.as_slice());
     assert_same(rt, at, &steps, &[requests, sent, 0, requests, 0]);
@@ -124,8 +125,8 @@ fn in_order(marks: &[Mark], one: &Mark, other: &Mark) -> (Option<Mark>, Option<M
     (first, None)
 }
 
-/// Asserts that the client at the first of these nodes enters `r` with number 1, and after it that at the second with number 2. Each
-/// client has the number of its node.
+/// Asserts that the client at the first of these nodes enters `r` with number 1, and after it that at the second with
+/// number 2. Each client has the number of its node.
 fn assert_order(rt: &impl Abort, at: At<'_>, marks: &[Mark], first: u16, second: u16) {
     let one = Mark::Entered(entry(rt, first, u32::from(first), Mode::Exclusive, 1));
     let two = Mark::Entered(entry(rt, second, u32::from(second), Mode::Exclusive, 2));
@@ -138,7 +139,8 @@ fn assert_order(rt: &impl Abort, at: At<'_>, marks: &[Mark], first: u16, second:
 pub enum End {
     /// With this many requests, which are all granted and left, and this many messages.
     Done(u128, u128),
-    /// With four requests and eight messages, and the client at the first of these nodes enters `r` before that at the second.
+    /// With four requests and eight messages, and the client at the first of these nodes enters `r` before that at the
+    /// second.
     InOrder(u16, u16),
     /// It does not come to its end, for this reason.
     Fails(ClusterError),

@@ -39,7 +39,8 @@ const OWN_AND_R: &[Client] = &[
     Client(2, &[Locks(b'b'), Unlocks(b'b'), Locks(b'r'), Unlocks(b'r')]),
 ];
 
-/// The node whose client is kept, and the other node, whose client enters `r` first. Each client has the number of its node.
+/// The node whose client is kept, and the other node, whose client enters `r` first. Each client has the number of its
+/// node.
 const ORDERS: &[(u16, u16)] = &[(1, 2), (2, 1)];
 
 #[test]

@@ -55,8 +55,8 @@ impl Meets {
         false
     }
 
-    /// Asserts that it was called `one` and `two` times for the steps of node 1 and node 2 and once for each client inside,
-    /// and nobody waited in vain. So a cluster that goes on after the gate's `false` is found out too.
+    /// Asserts that it was called `one` and `two` times for the steps of node 1 and node 2 and once for each client
+    /// inside, and nobody waited in vain. So a cluster that goes on after the gate's `false` is found out too.
     fn assert_seen(&self, rt: &impl Abort, label: &str, one: u64, two: u64) {
         let steps = (
             self.steps.0.load(Ordering::SeqCst),
@@ -178,7 +178,8 @@ fn a_client_is_inside_with_no_lock_held(rt: HostRuntime) {
     assert_meet(&rt, BESIDE);
 }
 
-/// A gate of two nodes that stays in each step for some time, and stops the cluster if another step of the node comes meanwhile.
+/// A gate of two nodes that stays in each step for some time, and stops the cluster if another step of the node comes
+/// meanwhile.
 #[derive(Drop)]
 struct Alone {
     /// How many are in a step of node 1 and of node 2.
@@ -237,8 +238,8 @@ struct Stopped {
 /// The gate stops the script.
 const STOPS: End = End::Fails(ClusterError::Fault(Stop::Gate));
 
-/// Gates that stop two writers, and one that does not: with three nodes the run takes 12 steps, two asks, two leaves and eight frames
-/// that come.
+/// Gates that stop two writers, and one that does not: with three nodes the run takes 12 steps, two asks, two leaves
+/// and eight frames that come.
 const STOPPED: &[Stopped] = &[
     Stopped {
         shows: "nobody is inside, of three nodes",

@@ -58,7 +58,8 @@ fn assert_granted(rt: &impl Abort, words: &str, came: &[Grant], all: &[Granted])
     assert_same(rt, at, &came.len(), &all.len());
 }
 
-/// A client in a cluster of two nodes, of which a node may be stopped before; the grants that are kept, and how the books end.
+/// A client in a cluster of two nodes, of which a node may be stopped before; the grants that are kept, and how the
+/// books end.
 pub struct Row {
     words: &'static str,
     /// The number after which those of `r` begin.
@@ -69,7 +70,8 @@ pub struct Row {
     ended: &'static [Ended],
 }
 
-/// Stops a node if one is to be, and has the client of a row do its script in a cluster. Asserts that its grants are kept.
+/// Stops a node if one is to be, and has the client of a row do its script in a cluster. Asserts that its grants are
+/// kept.
 fn assert_kept<R: AllocGlobal + Threads + Wait + Abort + Sync>(
     rt: &R,
     script: &Script,

@@ -96,7 +96,8 @@ pub fn unlock<R: Wait, G: Gate + Drop>(
     cluster.unlock(rt, alloc, node, client, r())
 }
 
-/// Looks who holds the name of a grant at its node, and then stops the cluster if there is a cause. Returns who held it.
+/// Looks who holds the name of a grant at its node, and then stops the cluster if there is a cause. Returns who held
+/// it.
 fn work<R: Wait, G: Gate + Drop>(
     rt: &R,
     cluster: &Cluster<G>,
@@ -114,7 +115,8 @@ fn work<R: Wait, G: Gate + Drop>(
     holder
 }
 
-/// Has a client of a node lock `r` exclusively, look who holds it, stop the cluster if there is a cause, and unlock `r`.
+/// Has a client of a node lock `r` exclusively, look who holds it, stop the cluster if there is a cause, and unlock
+/// `r`.
 ///
 /// # Errors
 ///

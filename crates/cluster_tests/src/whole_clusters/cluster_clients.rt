@@ -1,5 +1,5 @@
-//! Clients of a whole cluster on threads of their own, and what a watchdog sees of them. A trace cannot tell their acts: they wait for
-//! threads, are refused, and stop the cluster.
+//! Clients of a whole cluster on threads of their own, and what a watchdog sees of them. A trace cannot tell their
+//! acts: they wait for threads, are refused, and stop the cluster.
 use crate::whole_clusters::cluster_asserting::{assert_comes_to, assert_same, fail_at};
 use crate::whole_clusters::cluster_calls::{
     books_at_the_end, clusters_of, lock, site, site_of, unlock, use_name,
@@ -20,8 +20,8 @@ use std::thread;
 use std::thread::Threads;
 use test_support::{At, r};
 
-/// What a watchdog sees of a node: its fault, the client that holds `r` there, how many requests wait and how many clients are queued,
-/// and how many events its book has.
+/// What a watchdog sees of a node: its fault, the client that holds `r` there, how many requests wait and how many
+/// clients are queued, and how many events its book has.
 #[derive(Clone, Copy)]
 pub struct Seen {
     /// Its fault.
@@ -73,8 +73,8 @@ pub enum Act {
     Unlocks(u16, u32),
     /// At this node, this client does not unlock `r`, for this reason.
     RefusesToUnlock(u16, u32, CallError),
-    /// At this node, this client locks `r` and looks whether it holds it. Meanwhile the cluster is stopped, so that it does not give `r`
-    /// back, for this reason.
+    /// At this node, this client locks `r` and looks whether it holds it. Meanwhile the cluster is stopped, so that it
+    /// does not give `r` back, for this reason.
     UsesUntilAStop(u16, u32, SiteError),
     /// At this node, this client would do so, but does not lock `r`, for this reason.
     RefusesToUse(u16, u32, CallError),
@@ -104,7 +104,8 @@ pub struct Row {
     pub start: u64,
     /// What it does and shows, in order.
     pub acts: &'static [Act],
-    /// How many requests and messages the run has into which its books settle with the last grant that was told, if it is looked at.
+    /// How many requests and messages the run has into which its books settle with the last grant that was told, if it
+    /// is looked at.
     pub settles: Option<(u128, u128)>,
 }
 
@@ -178,8 +179,8 @@ fn grant_of(rt: &impl Abort, number: u16, client: u32, seq: u64) -> Grant {
     Grant { entry }
 }
 
-/// Asserts that a client locks `r` and holds it then, and gives it back or does not, for this reason; or does not lock it, for this
-/// reason. If there is a cause, the cluster is stopped while the client holds `r`. Tells its grant.
+/// Asserts that a client locks `r` and holds it then, and gives it back or does not, for this reason; or does not lock
+/// it, for this reason. If there is a cause, the cluster is stopped while the client holds `r`. Tells its grant.
 fn uses<R: AllocGlobal + Wait + Abort>(
     rt: &R,
     at: At<'_>,
@@ -306,7 +307,8 @@ impl Acts for Stage<'_> {
     }
 }
 
-/// Has a cluster do and show all of a row. If it is stopped, that is for this cause. Returns the last grant that was told.
+/// Has a cluster do and show all of a row. If it is stopped, that is for this cause. Returns the last grant that was
+/// told.
 fn act_through<R: AllocGlobal + Threads + Wait + Abort + Sync>(
     rt: &R,
     cluster: &Cluster<OpenGate>,
@@ -324,7 +326,8 @@ fn act_through<R: AllocGlobal + Threads + Wait + Abort + Sync>(
     stage.grant.into_inner()
 }
 
-/// Returns how many requests and messages the run has into which the books settle with a grant, or `None` if they do not.
+/// Returns how many requests and messages the run has into which the books settle with a grant, or `None` if they do
+/// not.
 fn totals_of(alloc: Global, books: &[Book], grant: Grant) -> Option<(u128, u128)> {
     match settled(alloc, books, &[grant]) {
         Some(settled) => Some((settled.report.requests, settled.report.sent)),
@@ -332,7 +335,8 @@ fn totals_of(alloc: Global, books: &[Book], grant: Grant) -> Option<(u128, u128)
     }
 }
 
-/// Has a cluster do and show all of a row. If it is stopped, that is for this cause. Ends the test if anything else happens.
+/// Has a cluster do and show all of a row. If it is stopped, that is for this cause. Ends the test if anything else
+/// happens.
 pub fn perform<R: AllocGlobal + Threads + Wait + Abort + Sync>(
     rt: &R,
     row: &'static Row,

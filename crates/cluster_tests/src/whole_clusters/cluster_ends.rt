@@ -12,7 +12,8 @@ use std::sync::atomic::Ordering;
 use std::thread::Threads;
 use test_support::{At, assert_prints, r, row};
 
-/// What a client meets that locks and unlocks a name: whether it is let in and, if it is, whether it gives the name back.
+/// What a client meets that locks and unlocks a name: whether it is let in and, if it is, whether it gives the name
+/// back.
 type Met = Result<Result<(), SiteError>, CallError>;
 
 /// A gate of two nodes.
@@ -84,8 +85,8 @@ fn events_of(books: &[Book]) -> Option<(u64, u64)> {
     }
 }
 
-/// Asserts that a client of two nodes meets what a row says, that the nodes have as many events, and that the gate was asked about each step,
-/// and about the one that it refuses, too.
+/// Asserts that a client of two nodes meets what a row says, that the nodes have as many events, and that the gate was
+/// asked about each step, and about the one that it refuses, too.
 pub fn pass<R: AllocGlobal + Threads + Wait + Abort + Sync>(rt: &R, row: &Passed) {
     let Passed {
         steps,
@@ -127,7 +128,8 @@ fn stop_and_pump<R: AllocGlobal + Wait + Abort>(rt: &R, cluster: &Cluster<OpenGa
     }
 }
 
-/// Asserts that all nodes of a cluster are stopped for this cause, and that a client of the last one is refused since it is stopped.
+/// Asserts that all nodes of a cluster are stopped for this cause, and that a client of the last one is refused since
+/// it is stopped.
 fn assert_stopped<R: AllocGlobal + Wait + Abort>(
     rt: &R,
     cluster: &Cluster<OpenGate>,
@@ -178,7 +180,8 @@ fn refused(reason: BookError) -> CallError {
     CallError::Site(SiteError::Refused(reason))
 }
 
-/// Has a client of a single node lock a name twice. Numbers begin after `start`. Asserts that it is refused at this turn, for this reason.
+/// Has a client of a single node lock a name twice. Numbers begin after `start`. Asserts that it is refused at this
+/// turn, for this reason.
 fn assert_refused<R: AllocGlobal + Wait + Abort>(rt: &R, start: u64, turn: usize, due: BookError) {
     let clusters = clusters_of(rt.alloc(), 1, start, OpenGate);
     for place in 0..=turn {

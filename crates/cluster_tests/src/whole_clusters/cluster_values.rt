@@ -35,8 +35,8 @@ pub fn comes_to(number: &AtomicU64, least: u64) -> bool {
     comes_within(MOST_LOOKS, number, least)
 }
 
-/// Returns what this gives, which a thread of its own does. If the thread does not end, or none can be started, the test ends
-/// after many looks.
+/// Returns what this gives, which a thread of its own does. If the thread does not end, or none can be started, the
+/// test ends after many looks.
 pub fn in_a_thread<R: Threads + Abort, T: Send, F: FnOnce() -> T + Send>(rt: &R, does: F) -> T
     requires { F.pre does }
 {
@@ -93,7 +93,8 @@ pub fn request(rt: &impl Abort, from: u16, to: u16, mode: Mode) -> Message {
     message_between(node(rt, from), node(rt, to), r(), Some(mode), 1)
 }
 
-/// Makes the site of a node of this many, from number `start`, and adds it to the others. Returns whether that succeeds.
+/// Makes the site of a node of this many, from number `start`, and adds it to the others. Returns whether that
+/// succeeds.
 fn adds_site(alloc: Global, sites: &mut Vec<Site>, number: u16, nodes: u16, start: u64) -> bool {
     let Some(node) = NodeId::new(number) else {
         return false;
@@ -126,8 +127,8 @@ pub fn books_of(alloc: Global, sites: Vec<Site>) -> Vec<Book> {
     books
 }
 
-/// Closes a cluster, and returns its books. The contracts of `close`, of `settle` and of some other calls are long, so their callers
-/// call them by functions such as this one, which have none.
+/// Closes a cluster, and returns its books. The contracts of `close`, of `settle` and of some other calls are long, so
+/// their callers call them by functions such as this one, which have none.
 pub fn closed<G: Gate + Drop>(alloc: Global, cluster: Cluster<G>) -> Vec<Book> {
     cluster.close(alloc)
 }

@@ -21,7 +21,8 @@ const COUNTS: &[(u16, Option<NewPostError>)] = &[
     (64, None),
 ];
 
-/// Returns how many nodes a cluster has that is made of this many, and how many books when it is closed, or why there is none.
+/// Returns how many nodes a cluster has that is made of this many, and how many books when it is closed, or why there
+/// is none.
 fn counts_of(alloc: Global, nodes: u16) -> Result<(u16, usize), NewPostError> {
     match new_cluster(alloc, nodes, 7, OpenGate) {
         Ok(cluster) => {
@@ -45,8 +46,8 @@ fn a_cluster_has_1_to_64_nodes(rt: HostRuntime) {
     }
 }
 
-/// Client 1 of node 1 of two holds the name while client 2 asks for it and is queued. A node and clients that do not exist are
-/// refused. Then client 1 leaves, and client 2 is let in with the number after that of client 1.
+/// Client 1 of node 1 of two holds the name while client 2 asks for it and is queued. A node and clients that do not
+/// exist are refused. Then client 1 leaves, and client 2 is let in with the number after that of client 1.
 const HANDED_OVER: &Row = &Row {
     words: "client 1 hands the name over to client 2",
     nodes: 2,
@@ -87,8 +88,8 @@ fn a_cluster_hands_a_name_over_and_its_books_settle(rt: HostRuntime) {
     play(&rt, Scene::Clients(HANDED_OVER, Stop::Refused));
 }
 
-/// The cluster is stopped while a client of a single node holds the name, which the node holds forever then. A client that comes later
-/// is refused.
+/// The cluster is stopped while a client of a single node holds the name, which the node holds forever then. A client
+/// that comes later is refused.
 const NOT_GIVEN_BACK: &Row = &Row {
     words: "the cluster is stopped while a client holds the name",
     nodes: 1,

@@ -21,7 +21,8 @@ pub trait Acts: Sync {
     fn act<R: AllocGlobal + Wait + Abort>(&self, rt: &R, place: usize);
 }
 
-/// Has a cluster do and show this many acts, in order, and counts the threads that have ended. Ends the test if a thread does not end.
+/// Has a cluster do and show this many acts, in order, and counts the threads that have ended. Ends the test if a
+/// thread does not end.
 pub fn follow<R: AllocGlobal + Threads + Wait + Abort + Sync, A: Acts>(
     rt: &R,
     words: &str,

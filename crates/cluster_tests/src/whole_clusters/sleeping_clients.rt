@@ -8,8 +8,9 @@ use crate::whole_clusters::cluster_values::CAUSES;
 use crate::whole_clusters::plays::{Scene, play};
 use ra_cluster::{BookError, CallError, SiteError, Stop};
 
-/// The clients of node 1 of two ask for one of two names, one after the other. Node 2 takes no frame, so nobody is let in: the first to
-/// ask for a name waits for node 2, and those after it are queued. Then they all wait, and the cluster is stopped.
+/// The clients of node 1 of two ask for one of two names, one after the other. Node 2 takes no frame, so nobody is let
+/// in: the first to ask for a name waits for node 2, and those after it are queued. Then they all wait, and the cluster
+/// is stopped.
 const ASLEEP: &Row = &Row {
     words: "five clients ask, and all are told of a stop",
     nodes: 2,
@@ -80,8 +81,8 @@ fn all_clients_that_sleep_at_a_node_are_told_the_cause_of_a_stop(rt: HostRuntime
 /// How often two threads use one client number.
 const ROUNDS: u32 = 200;
 
-/// Two threads use client number 1 of a single node. The first waits for client 2 to leave the name. As soon as client 2
-/// leaves, the second one unlocks the name, which the first has by then, and asks for it again.
+/// Two threads use client number 1 of a single node. The first waits for client 2 to leave the name. As soon as client
+/// 2 leaves, the second one unlocks the name, which the first has by then, and asks for it again.
 const SHARED: &Row = &Row {
     words: "two threads use one client number",
     nodes: 1,

@@ -1,5 +1,5 @@
-//! If a growth is refused, the call returns `Memory` and changes nothing, and it succeeds when it is made again. Also what an automaton
-//! shows after each call.
+//! If a growth is refused, the call returns `Memory` and changes nothing, and it succeeds when it is made again. Also
+//! what an automaton shows after each call.
 use crate::core_asserting::{assert_same, judge};
 use crate::node_tests::automaton_calls::{leave, leave_and_request, receive, request};
 use Call::{Ask, Leave, LeaveAndAsk, Reply, Request};
@@ -149,7 +149,8 @@ const ROWS: &[Row] = &[
     },
 ];
 
-/// Looks at what a leave answered. If it was taken, asserts that it sent this many messages, otherwise that memory ran out.
+/// Looks at what a leave answered. If it was taken, asserts that it sent this many messages, otherwise that memory ran
+/// out.
 fn judge_leave(
     rt: &impl Abort,
     at: At<'_>,
@@ -162,7 +163,8 @@ fn judge_leave(
     judge(rt, at, came.err(), LeaveError::Memory)
 }
 
-/// Makes a call. If it is refused, memory ran out. Leaving sends the deferred REPLY, and asking again sends two REQUESTs.
+/// Makes a call. If it is refused, memory ran out. Leaving sends the deferred REPLY, and asking again sends two
+/// REQUESTs.
 fn make(
     rt: &(impl Abort + AllocGlobal),
     at: At<'_>,
@@ -224,8 +226,8 @@ fn phase_after(row: &Row) -> Phase {
     }
 }
 
-/// Makes the call of a row, and makes it again if memory ran out, before which all has to be as it was. Asserts what the automaton
-/// shows in the end.
+/// Makes the call of a row, and makes it again if memory ran out, before which all has to be as it was. Asserts what
+/// the automaton shows in the end.
 fn try_row(
     rt: &(impl Abort + AllocGlobal),
     at: At<'_>,

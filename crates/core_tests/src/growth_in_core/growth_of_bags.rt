@@ -1,4 +1,5 @@
-//! If a growth of a bag is refused, the call returns `Memory` and changes nothing, and it succeeds when it is made again.
+//! If a growth of a bag is refused, the call returns `Memory` and changes nothing, and it succeeds when it is made
+//! again.
 use crate::core_asserting::assert_same;
 use ra_bag::Bag;
 use ra_stamp::{Memory, Message, Messages};
@@ -89,8 +90,8 @@ fn assert_copies(rt: &impl Abort, label: &str, bag: &Bag, count: u64) {
     assert_count(rt, label, bag, count);
 }
 
-/// Puts a list of requests into a bag of such lists, and tries again if memory ran out, when the bag still has to have the same
-/// messages.
+/// Puts a list of requests into a bag of such lists, and tries again if memory ran out, when the bag still has to have
+/// the same messages.
 fn try_put(rt: &impl Abort, bag: &mut Bag, list: &Messages) -> Tried {
     let before = bag.len();
     if bag.put_all(list).is_ok() {
@@ -101,7 +102,8 @@ fn try_put(rt: &impl Abort, bag: &mut Bag, list: &Messages) -> Tried {
     Tried::RetrySucceeded
 }
 
-/// Makes room in a bag of such lists, and tries again if memory ran out, when the bag still has to have the same messages.
+/// Makes room in a bag of such lists, and tries again if memory ran out, when the bag still has to have the same
+/// messages.
 fn try_reserve(rt: &impl Abort, bag: &mut Bag, more: u64, numbers: u64) -> Tried {
     let before = bag.len();
     if bag.reserve(more).is_ok() {
@@ -112,8 +114,8 @@ fn try_reserve(rt: &impl Abort, bag: &mut Bag, more: u64, numbers: u64) -> Tried
     Tried::RetrySucceeded
 }
 
-/// Puts a copy of a message that is in a bag after the others, and tries again if memory ran out, when the bag still has to have
-/// the same messages.
+/// Puts a copy of a message that is in a bag after the others, and tries again if memory ran out, when the bag still
+/// has to have the same messages.
 fn try_copy(rt: &impl Abort, bag: &mut Bag, message: &Message) -> Tried {
     let (before, first) = (bag.len(), bag.again(message));
     if first.is_ok() {
@@ -179,8 +181,8 @@ fn growth_of_a_bag(rt: HostRuntime) {
 /// What is compared after messages were taken.
 const KEEPS: &str = "keeps a bit for each slot";
 
-/// Takes a message, and returns whether the bag keeps a bit for each slot: only then does a later message keep its slot.
-/// Whether the bag also has an index of its messages does not show here.
+/// Takes a message, and returns whether the bag keeps a bit for each slot: only then does a later message keep its
+/// slot. Whether the bag also has an index of its messages does not show here.
 fn keeps_bits(rt: &impl Abort, label: &str, bag: &mut Bag, taken: u64, later: u64) -> bool {
     let before = bag.find(&asked(later), 0);
     takes(rt, label, bag, taken);
@@ -234,8 +236,9 @@ fn finds_and_takes(rt: &impl Abort, label: &str, bag: &mut Bag, seq: u64, is_by_
     }
 }
 
-/// Finds and takes one of each of the 238 messages after the first 30, by its value and as the one that was found by turns.
-/// After each, a message is sought that is not there. Not one of those taken is the oldest, which a bag finds without an index.
+/// Finds and takes one of each of the 238 messages after the first 30, by its value and as the one that was found by
+/// turns. After each, a message is sought that is not there. Not one of those taken is the oldest, which a bag finds
+/// without an index.
 fn finds_and_takes_some(rt: &impl Abort, label: &str, bag: &mut Bag) {
     for seq in 31..=268u64 {
         finds_and_takes(rt, label, bag, seq, seq % 2 == 0);
@@ -245,8 +248,8 @@ fn finds_and_takes_some(rt: &impl Abort, label: &str, bag: &mut Bag) {
 }
 
 /// Puts 268 messages three times into each of two bags. The second one learns in which slot each one is. Both may then
-/// find and take some, which needs no memory. A map of 268 entries is so full that repeatedly removing an entry and putting
-/// it back would make it grow. If there is no bag, memory ran out.
+/// find and take some, which needs no memory. A map of 268 entries is so full that repeatedly removing an entry and
+/// putting it back would make it grow. If there is no bag, memory ran out.
 fn try_two(rt: &(impl Abort + AllocGlobal), takes_some: bool) -> Result<Tried, Memory> {
     let (mut plain, mut indexed) = (new_bag(rt)?, new_bag(rt)?);
     let put = both(
@@ -274,8 +277,8 @@ fn growth_of_a_bag_of_equal_messages_takes_no_more(rt: HostRuntime) {
 }
 
 /// Puts 3,000 messages into a bag, has it learn in which slot each one is, and takes more than half of them from after
-/// the first, so that it is closed up while more than 1,024 are left. Closing up needs no memory for the bits: if the bag
-/// kept one for each slot before, it does so after. If there is no bag, memory ran out.
+/// the first, so that it is closed up while more than 1,024 are left. Closing up needs no memory for the bits: if the
+/// bag kept one for each slot before, it does so after. If there is no bag, memory ran out.
 fn try_closed_up(rt: &(impl Abort + AllocGlobal)) -> Result<Tried, Memory> {
     let (label, mut bag) = ("a bag that is closed up", new_bag(rt)?);
     let mut list = Messages::new(rt.alloc());
@@ -315,8 +318,8 @@ fn put_one_more(bag: &mut Bag, one: &Messages) -> Result<(), Memory> {
     bag.put_all(one)
 }
 
-/// Makes room for one more message in a bag and puts it there. Tries again if memory ran out, when the bag has to have as many
-/// messages as before.
+/// Makes room for one more message in a bag and puts it there. Tries again if memory ran out, when the bag has to have
+/// as many messages as before.
 fn try_one_more(rt: &impl Abort, bag: &mut Bag, one: &Messages) -> Tried {
     let (at, before) = (row("a bag makes room for one more"), bag.len());
     if put_one_more(bag, one).is_ok() {

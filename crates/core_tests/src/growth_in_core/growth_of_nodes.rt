@@ -1,5 +1,5 @@
-//! If a growth is refused, the call returns `Memory` and changes nothing, and it succeeds when it is made again. Also what a node shows
-//! after each call.
+//! If a growth is refused, the call returns `Memory` and changes nothing, and it succeeds when it is made again. Also
+//! what a node shows after each call.
 use crate::core_asserting::{assert_same, judge};
 use crate::growth_in_core::growth_of_bags::{try_many_pushes, try_many_puts};
 use crate::node_tests::node_answers::{fault_of_ask, fault_of_leave};
@@ -129,7 +129,8 @@ fn make(
     }
 }
 
-/// Returns what a node shows: how many requests wait and how many clients are queued, and the highest number and the holder of `r`.
+/// Returns what a node shows: how many requests wait and how many clients are queued, and the highest number and the
+/// holder of `r`.
 fn shown(node: &Node) -> ((u64, u128), (u64, Option<Entry>)) {
     (
         (node.waiting(), node.queued()),
@@ -184,8 +185,8 @@ fn growth_of_a_node(rt: HostRuntime) {
 /// How many of the calls above there are before the first leave. At it, node 2 is deferred and client 2 is queued.
 const BEFORE_LEAVING: usize = 5;
 
-/// Makes room for a leave and the calls before it. The leave needs no memory then: it may not be refused, whichever growth
-/// is. If the room or a call before it is refused, memory ran out.
+/// Makes room for a leave and the calls before it. The leave needs no memory then: it may not be refused, whichever
+/// growth is. If the room or a call before it is refused, memory ran out.
 fn try_leaving(rt: &(impl Abort + AllocGlobal), node: &mut Node) -> Result<Tried, Memory> {
     let label = "a leave with room";
     let Ok(mut left) = Outcome::for_leave(rt.alloc(), 2) else {
@@ -238,8 +239,8 @@ fn take_stray(rt: &(impl Abort + AllocGlobal), node: &mut Node, number: u16) {
     assert_same(rt, at, &came, &Ok((0, 0)));
 }
 
-/// Has a node take a REQUEST about `r`, which needs memory, and then a stray about each of a thousand other names. The strays
-/// need none: not one of them may be refused, whichever growth is.
+/// Has a node take a REQUEST about `r`, which needs memory, and then a stray about each of a thousand other names. The
+/// strays need none: not one of them may be refused, whichever growth is.
 fn try_strays(rt: &(impl Abort + AllocGlobal), node: &mut Node) -> Tried {
     let tried = try_call(rt, row("before the strays"), node, Request(3));
     for number in 0..1000 {

@@ -32,8 +32,8 @@ pub fn leave_and_request(
     automaton.leave_and_request(rt.alloc(), mode)
 }
 
-/// An automaton takes the REQUEST in this mode, or the REPLY if no mode is given, of one node to another about its resource. Returns
-/// its answer.
+/// An automaton takes the REQUEST in this mode, or the REPLY if no mode is given, of one node to another about its
+/// resource. Returns its answer.
 pub fn receive(
     rt: &(impl Abort + AllocGlobal),
     automaton: &mut Automaton,

@@ -1,11 +1,11 @@
-//! What automata and nodes refuse and no command shows: nodes that cannot be, a message of the node itself, which no frame carries, and
-//! calls of an automaton that do not fit its phase; and how faults are printed.
+//! What automata and nodes refuse and no command shows: nodes that cannot be, a message of the node itself, which no
+//! frame carries, and calls of an automaton that do not fit its phase; and how faults are printed.
 use crate::core_asserting::{assert_same, node};
 use crate::node_tests::automaton_calls::{leave, leave_and_request, receive, request};
 use Call::{Leaves, LeavesAndRequests, Requests};
 use Mode::Shared;
-use ra_automaton::{Automaton, LeaveError, Phase, RequestError};
-use ra_node::{AskError, LeaveError as NodeLeaveError, NewError, Node, ReceiveError};
+use ra_automaton::{Automaton, LeaveError, Phase, RequestError, WithdrawError};
+use ra_node::{AskError, CancelError, LeaveError as NodeLeaveError, NewError, Node, ReceiveError};
 use ra_stamp::Mode;
 use std::process::Abort;
 use test_support::{assert_words, message_between, q, r, row};
@@ -79,7 +79,8 @@ fn there_are_one_to_sixty_four_nodes(rt: HostRuntime) {
     }
 }
 
-/// A message from a node to another one, and why node 2 of 3 refuses it. The receiver comes first if the sender is wrong, too.
+/// A message from a node to another one, and why node 2 of 3 refuses it. The receiver comes first if the sender is
+/// wrong, too.
 struct Sent {
     from: u16,
     to: u16,
@@ -109,7 +110,8 @@ const SENT: &[Sent] = &[
     },
 ];
 
-/// Asserts that an automaton and a node refuse a REQUEST in this mode, or a REPLY if no mode is given, and meet no number by it.
+/// Asserts that an automaton and a node refuse a REQUEST in this mode, or a REPLY if no mode is given, and meet no
+/// number by it.
 fn assert_refused(
     rt: &(impl Abort + AllocGlobal),
     members: (&mut Automaton, &mut Node),
@@ -246,6 +248,8 @@ fn faults_are_printed_as_their_words(rt: HostRuntime) {
         RequestError: NotIdle Exhausted Memory;
         ReceiveError: WrongNode Stranger Memory;
         LeaveError: NotHeld Memory;
+        WithdrawError: NotWaiting Memory;
         AskError: Busy Exhausted Memory;
-        NodeLeaveError: NotHeld Memory);
+        NodeLeaveError: NotHeld Memory;
+        CancelError: NotWaiting Memory);
 }

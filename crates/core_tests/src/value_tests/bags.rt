@@ -1,5 +1,5 @@
-//! What the tests of bags share: what a bag, which keeps the messages under way, does or shows, one step after the other. A trace cannot
-//! tell it: no command shows places near which messages are found, copies, or room that is made.
+//! What the tests of bags share: what a bag, which keeps the messages under way, does or shows, one step after the
+//! other. A trace cannot tell it: no command shows places near which messages are found, copies, or room that is made.
 use crate::core_asserting::assert_same;
 use Step::{
     Contains, Copies, CopiesAmong, CopiesNumbers, Finds, Has, HasCount, HasNumbers, Lacks,
@@ -40,8 +40,8 @@ pub enum Step {
         first: u64,
         count: u64,
     },
-    /// The request with the number `copied` is copied this many times. Nine others are put before each copy, numbered on from
-    /// `first`.
+    /// The request with the number `copied` is copied this many times. Nine others are put before each copy, numbered
+    /// on from `first`.
     CopiesAmong {
         copied: u64,
         first: u64,
@@ -65,8 +65,8 @@ pub enum Step {
         first: u64,
         count: u64,
     },
-    /// Each of the requests 1 to 400,000 is found, not near the place 0, and taken, and is put after all others. They go out of
-    /// order.
+    /// Each of the requests 1 to 400,000 is found, not near the place 0, and taken, and is put after all others. They
+    /// go out of order.
     MovesEach,
     /// The message is looked for near this place, and this is found.
     Finds {
@@ -83,8 +83,8 @@ pub enum Step {
     Has(&'static [Wire]),
     /// This many messages are in it.
     HasCount(u64),
-    /// From the place `from` on, there are this many requests, the first with the number `first`, and each with a number `apart` above
-    /// the one before.
+    /// From the place `from` on, there are this many requests, the first with the number `first`, and each with a
+    /// number `apart` above the one before.
     HasNumbers {
         from: u64,
         first: u64,
@@ -215,7 +215,8 @@ fn takes_every_other(rt: &impl Abort, at: At<'_>, bag: &mut Bag, first: u64, cou
 /// How many messages are moved.
 const MOVES: u64 = 400_000;
 
-/// A prime number that does not divide the number of messages, so that its multiples name each message once, out of order.
+/// A prime number that does not divide the number of messages, so that its multiples name each message once, out of
+/// order.
 const STRIDE: u64 = 7_919;
 
 /// Finds each request, takes it and puts it after all others.

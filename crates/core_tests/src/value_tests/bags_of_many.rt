@@ -9,8 +9,8 @@ use ra_bag::Found;
 
 /// A bag of many messages, which knows in which slot each is.
 const MANY: &[Scene] = &[
-    // The request with the number 50 is in the bag twice, 150 places apart. The later one is found and taken at its place although slots
-    // before it are empty, and the earlier one stays.
+    // The request with the number 50 is in the bag twice, 150 places apart. The later one is found and taken at its
+    // place although slots before it are empty, and the earlier one stays.
     Scene {
         shows: "a message is found at its place where slots are empty",
         steps: &[
@@ -138,8 +138,8 @@ const MANY: &[Scene] = &[
             HasCount(195),
         ],
     },
-    // Of 200 requests, those with even numbers are taken, then 100 more are put after the others, and then those with odd
-    // numbers are taken, except the first. The others always stay in their order.
+    // Of 200 requests, those with even numbers are taken, then 100 more are put after the others, and then those with
+    // odd numbers are taken, except the first. The others always stay in their order.
     Scene {
         shows: "many messages stay in order while others are taken",
         steps: &[
@@ -347,8 +347,8 @@ const MANY: &[Scene] = &[
             },
         ],
     },
-    // Of two equal messages among many, the last of all is found. From then on the one before that which was taken last is
-    // found first, too: from the newest on, no message is looked for.
+    // Of two equal messages among many, the last of all is found. From then on the one before that which was taken last
+    // is found first, too: from the newest on, no message is looked for.
     Scene {
         shows: "among many the last message is found, and then the one before it",
         steps: &[

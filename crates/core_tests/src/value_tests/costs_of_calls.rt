@@ -1,5 +1,5 @@
-//! What calls cost. A test has a minute. A body that goes through all messages at each call, or learns where they are anew at each
-//! call, takes longer.
+//! What calls cost. A test has a minute. A body that goes through all messages at each call, or learns where they are
+//! anew at each call, takes longer.
 use crate::value_tests::bags::{Scene, Step, Wire, follow};
 use Step::{Finds, HasCount, HasNumbers, MovesEach, PutsNumbers, TakesEveryOther};
 use Wire::Asks;
@@ -22,9 +22,10 @@ fn a_message_among_many_is_found_without_a_search(rt: HostRuntime) {
     follow(&rt, EACH_MOVED);
 }
 
-/// The index is learned with the message that is put after one was looked for, and the bit words with the one that is put after
-/// every other one was taken. The message at place `p` is then the one with the number `2 p + 1`. A body of `at` that goes through all
-/// slots before the place looks at 40,000,000,000 of them; one that goes through the words looks at 625,000,000 words.
+/// The index is learned with the message that is put after one was looked for, and the bit words with the one that is
+/// put after every other one was taken. The message at place `p` is then the one with the number `2 p + 1`. A body of
+/// `at` that goes through all slots before the place looks at 40,000,000,000 of them; one that goes through the words
+/// looks at 625,000,000 words.
 const EVERY_OTHER_TAKEN: &[Scene] = &[Scene {
     shows: "each of 200,000 places is found without a walk over the slots",
     steps: &[

@@ -4,7 +4,7 @@ use crate::core_asserting::assert_same;
 use Call::{Asks, Enters, Leaves};
 use Mode::{Exclusive, Shared};
 use ra_stamp::{Entry, Mode};
-use ra_table::{EnterError, LeaveError, RequestError, Table};
+use ra_table::{EnterError, LeaveError, RequestError, Table, WithdrawError};
 use std::process::Abort;
 use test_support::{At, assert_prints, assert_words, entry, r};
 
@@ -28,7 +28,8 @@ struct Row {
 
 const NOBODY: [bool; 3] = [false, false, false];
 
-/// A reader at node 1, a writer at node 2 and a reader at node 3 ask with the same number. What is refused changes nothing.
+/// A reader at node 1, a writer at node 2 and a reader at node 3 ask with the same number. What is refused changes
+/// nothing.
 const ROWS: &[Row] = &[
     Row {
         call: Enters(Err(EnterError::NotWaiting)),
@@ -200,6 +201,7 @@ const LEAVE_FAULTS: &[(LeaveError, &str)] = &[(LeaveError::NotHeld, "NotHeld")];
 #[test]
 fn a_refusal_is_printed_as_one_word(rt: HostRuntime) {
     assert_prints!(&rt, LEAVE_FAULTS);
+    assert_prints!(&rt, &[(WithdrawError::NotWaiting, "NotWaiting")]);
     assert_words!(&rt;
         RequestError: NodeBusy NotAbove Memory;
         EnterError: NotWaiting Held Earlier Memory);

@@ -414,12 +414,13 @@ fn assert_marks(rt: &impl Abort, marks: &Marks, expected: &[Mark]) {
     assert_same(rt, at, &marks.at(expected.len() as u64), &None);
 }
 
-/// Returns the three marks of an entry.
-fn marks_of(entry: &Entry) -> [Mark; 3] {
+/// Returns the four marks of an entry.
+fn marks_of(entry: &Entry) -> [Mark; 4] {
     [
         Mark::Requested(*entry),
         Mark::Entered(*entry),
         Mark::Left(*entry),
+        Mark::Withdrawn(*entry),
     ]
 }
 
@@ -431,6 +432,7 @@ fn marks_are_listed_in_order(rt: HostRuntime) {
     adds_mark(&rt, &mut marks, 2, all[0]);
     adds_mark(&rt, &mut marks, 0, all[1]);
     adds_mark(&rt, &mut marks, 0, all[2]);
+    adds_mark(&rt, &mut marks, 1, all[3]);
     assert_marks(&rt, &marks, &all);
 }
 
@@ -473,6 +475,8 @@ fn assert_named(rt: &(impl Abort + AllocGlobal), name: Name) {
     assert_prints!(rt, &[(entered, "enter 2 7 disk-1 S 3")]);
     let left = Mark::Left(entry(name, Mode::Exclusive));
     assert_prints!(rt, &[(left, "leave 2 7 disk-1 X 3")]);
+    let withdrawn = Mark::Withdrawn(entry(name, Mode::Shared));
+    assert_prints!(rt, &[(withdrawn, "withdraw 2 7 disk-1 S 3")]);
 }
 
 #[test]

@@ -1,5 +1,6 @@
-//! What a cluster, its clients and its auditor do and show, act by act. A trace cannot tell it: frames come that no node sent, rounds are
-//! made at any time and may be refused, and a call that finds no memory is made again. Messages are lines of a trace.
+//! What a cluster, its clients and its auditor do and show, act by act. A trace cannot tell it: frames come that no
+//! node sent, rounds are made at any time and may be refused, and a call that finds no memory is made again. Messages
+//! are lines of a trace.
 use crate::audit_tests::audited_clusters::{
     Ended, assert_ended, closed, clusters_of, comes, refusal_of_lock, refusal_of_unlock, site,
 };
@@ -57,8 +58,8 @@ pub enum Answer {
     LostUnsent(Sends),
 }
 
-/// What a cluster, its clients and its auditor do or show. All is about the name `r`. A call that finds no memory has to leave all as it
-/// was, and is made again.
+/// What a cluster, its clients and its auditor do or show. All is about the name `r`. A call that finds no memory has
+/// to leave all as it was, and is made again.
 #[derive(Clone, Copy)]
 pub enum Act {
     /// Client 1 of this node locks the name.
@@ -71,8 +72,8 @@ pub enum Act {
     IsRefused(u16, BookError),
     /// This frame comes, as if its sender had sent it.
     Comes(Sends),
-    /// The site of this node hands over what came after an event with this clock: its last event has the other clock, and this frame
-    /// was lost, or none.
+    /// The site of this node hands over what came after an event with this clock: its last event has the other clock,
+    /// and this frame was lost, or none.
     HandsOver(u16, u64, u64, Option<Sends>),
     /// A round answers this.
     Audits(Answer),
@@ -94,8 +95,8 @@ pub enum Act {
     HasLosses(u64, usize),
 }
 
-/// For which cluster an auditor is made: of how many nodes, whether it is audited, and of how many nodes and with which start the auditor
-/// takes it to be.
+/// For which cluster an auditor is made: of how many nodes, whether it is audited, and of how many nodes and with which
+/// start the auditor takes it to be.
 #[derive(Clone, Copy)]
 pub struct Made {
     /// How many nodes the cluster has.
@@ -168,7 +169,8 @@ pub const OF_ONE: Row = Row {
     ..LOSING
 };
 
-/// Makes a round. Callers know its answer alone, so that their proofs are short. The end of an audit may answer the same.
+/// Makes a round. Callers know its answer alone, so that their proofs are short. The end of an audit may answer the
+/// same.
 fn round<R: Wait>(
     rt: &R,
     alloc: Global,
@@ -335,8 +337,8 @@ fn take<R: Wait>(rt: &R, alloc: Global, site: &Site, clock: u64) -> Result<Given
     }
 }
 
-/// Has the site of a node hand over what came after an event with this clock, and does it again if memory ran out. Returns what became
-/// of it, too.
+/// Has the site of a node hand over what came after an event with this clock, and does it again if memory ran out.
+/// Returns what became of it, too.
 pub fn hand_over<R: AllocGlobal + Wait + Abort>(
     rt: &R,
     at: At<'_>,
@@ -523,8 +525,8 @@ fn done_with<R: AllocGlobal + Threads + Wait + Abort + Sync>(
     tried
 }
 
-/// Has a cluster and an auditor do and show all of a row, and closes the cluster. Ends the test if anything else happens. If they
-/// cannot be made, memory ran out.
+/// Has a cluster and an auditor do and show all of a row, and closes the cluster. Ends the test if anything else
+/// happens. If they cannot be made, memory ran out.
 pub fn try_row<R: AllocGlobal + Threads + Wait + Abort + Sync>(
     rt: &R,
     row: &Row,

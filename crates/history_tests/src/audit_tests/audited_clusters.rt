@@ -1,5 +1,5 @@
-//! The clusters of audits: how they are made and closed, what client 1 of a node does, and frames that come although no node
-//! sent them. The contracts of most calls are long, so tests make them by these functions, which have none.
+//! The clusters of audits: how they are made and closed, what client 1 of a node does, and frames that come although no
+//! node sent them. The contracts of most calls are long, so tests make them by these functions, which have none.
 use crate::kept_books::history_asserting::{assert_same, fail_at};
 use crate::kept_books::history_values::node;
 use ra_book::{Book, Stop};

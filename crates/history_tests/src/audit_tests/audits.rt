@@ -1,5 +1,5 @@
-//! An auditor, which takes what has happened at books and puts it into one run, round after round. A trace cannot tell in which parts it
-//! takes the events, nor which of them do not fit.
+//! An auditor, which takes what has happened at books and puts it into one run, round after round. A trace cannot tell
+//! in which parts it takes the events, nor which of them do not fit.
 use crate::kept_books::book_steps::{Wire, frame};
 use crate::kept_books::histories::{Done, ONE, TWO, books_after};
 use crate::kept_books::history_asserting::{assert_same, fail_at};
@@ -89,6 +89,7 @@ impl MarkObserver for Compares {
             Mark::Requested(entry) => self.place == 0 && entry == self.entry,
             Mark::Entered(entry) => self.place == 1 && entry == self.entry,
             Mark::Left(entry) => self.place == 2 && entry == self.entry,
+            Mark::Withdrawn(_) => false,
         };
         self.are_equal = self.are_equal && is_equal;
         self.place = self.place.saturating_add(1);
@@ -170,8 +171,8 @@ fn advance(
     auditor.advance(alloc, observer)
 }
 
-/// Puts all that can be put into the run, and does it again if memory ran out, when all has to be as before, unless it may change in
-/// parts.
+/// Puts all that can be put into the run, and does it again if memory ran out, when all has to be as before, unless it
+/// may change in parts.
 fn advances(
     rt: &impl Abort,
     alloc: Global,
@@ -311,7 +312,8 @@ fn all_acts(
     tried
 }
 
-/// Has this auditor do all of this with the books of two nodes. The observer is lent, so that it is dropped at one exit.
+/// Has this auditor do all of this with the books of two nodes. The observer is lent, so that it is dropped at one
+/// exit.
 fn audited_by(
     rt: &impl Abort,
     alloc: Global,

@@ -1,5 +1,5 @@
-//! The frames that an audited cluster loses are handed over, each once, whatever its rounds took before. Rounds of an auditor put
-//! them into the run.
+//! The frames that an audited cluster loses are handed over, each once, whatever its rounds took before. Rounds of an
+//! auditor put them into the run.
 use crate::audit_tests::audit_acts::Act::{
     Asks, Audits, Ends, Enters, HandsOver, HasLosses, Leaves, Shows,
 };
@@ -14,8 +14,8 @@ const SECOND: Sends = Sends {
     message: "deliver request 1 2 r X 2",
 };
 
-/// Client 1 of node 1 locks the name and unlocks it, and asks again in vain. Each node hands over what happened: first all of it, then
-/// what came after that, and then nothing more.
+/// Client 1 of node 1 locks the name and unlocks it, and asks again in vain. Each node hands over what happened: first
+/// all of it, then what came after that, and then nothing more.
 const HANDED_OVER: &[Row] = &[Row {
     words: "a loss is handed over once after rounds",
     running: &[
@@ -37,8 +37,8 @@ fn a_loss_is_handed_over_once_after_rounds(rt: HostRuntime) {
     play_audits(&rt, HANDED_OVER);
 }
 
-/// Client 1 of node 1 does the same, with rounds of an auditor. The run has all: an ask, a REQUEST, a REPLY and a leave, and then an ask and
-/// the loss of its REQUEST.
+/// Client 1 of node 1 does the same, with rounds of an auditor. The run has all: an ask, a REQUEST, a REPLY and a
+/// leave, and then an ask and the loss of its REQUEST.
 const AUDITED: &[Row] = &[Row {
     words: "a loss is put into the run by rounds",
     running: &[

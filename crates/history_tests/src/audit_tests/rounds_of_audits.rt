@@ -545,8 +545,8 @@ fn rounds_take_the_events_out_of_the_books(rt: HostRuntime) {
     play_audits(&rt, BOOKS);
 }
 
-/// Clients of two nodes lock and unlock the name in turn, with a round after each. All that happened is in the run at the end, and left the
-/// books: two locks, with an ask, a REQUEST, a REPLY and a leave each.
+/// Clients of two nodes lock and unlock the name in turn, with a round after each. All that happened is in the run at
+/// the end, and left the books: two locks, with an ask, a REQUEST, a REPLY and a leave each.
 const RUNNING: &[Row] = &[Row {
     words: "locks in turn, on the threads of a cluster",
     running: &[

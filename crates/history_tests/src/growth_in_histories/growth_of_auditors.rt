@@ -1,5 +1,5 @@
-//! Each growth of an auditor is refused: its call answers that memory ran out, leaves everything as it was, and does what
-//! it should when it is made again. If that happens in the middle of a round, the events before are in the run.
+//! Each growth of an auditor is refused: its call answers that memory ran out, leaves everything as it was, and does
+//! what it should when it is made again. If that happens in the middle of a round, the events before are in the run.
 use crate::audit_tests::audits::Act::{AdvancesInParts, Gets, Has, Leaves};
 use crate::audit_tests::audits::{Act, Part, Shown, audited};
 use crate::audit_tests::audits_of_locks::{EVENT_BY_EVENT, LOST};

@@ -1,5 +1,5 @@
-//! Each growth of a book is refused: the call answers that memory ran out, leaves everything as it was, and does what it
-//! should when it is made again.
+//! Each growth of a book is refused: the call answers that memory ran out, leaves everything as it was, and does what
+//! it should when it is made again.
 use crate::kept_books::book_steps::Call::{Ask, Receive};
 use crate::kept_books::book_steps::{ASK, ASKS, Call, LEAVE, REPLIES, counts_of, refusal};
 use crate::kept_books::history_asserting::assert_same;
@@ -10,8 +10,8 @@ use std::alloc::Global;
 use std::process::Abort;
 use test_support::{At, Tried, assert_grown, both};
 
-/// Makes a call of a book, and makes it again if memory ran out, when the book has to have these events, sent frames and clock, as
-/// before. A leave needs no memory: it may not be refused, whichever growth is.
+/// Makes a call of a book, and makes it again if memory ran out, when the book has to have these events, sent frames
+/// and clock, as before. A leave needs no memory: it may not be refused, whichever growth is.
 fn try_call(
     rt: &impl Abort,
     alloc: Global,

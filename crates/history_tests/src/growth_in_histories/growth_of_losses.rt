@@ -1,5 +1,5 @@
-//! Each growth is refused in audited clusters that lose frames. A loss needs no memory to be flagged, and is handed over once. A round
-//! of an auditor notes it once, whichever memory it is refused.
+//! Each growth is refused in audited clusters that lose frames. A loss needs no memory to be flagged, and is handed
+//! over once. A round of an auditor notes it once, whichever memory it is refused.
 use crate::audit_tests::audit_acts::Act::{Asks, Audits, Ends, HandsOver, HasLosses, Shows};
 use crate::audit_tests::audit_acts::Answer::Fine;
 use crate::audit_tests::audit_acts::{Act, LOSING, Row, Sends, hand_over};
@@ -15,8 +15,8 @@ use std::sync::Wait;
 use std::thread::Threads;
 use test_support::{At, Tried, again, assert_grown, both, part, reply, request, row};
 
-/// What two nodes handed over so far: what became of the calls, the clock of the last event of node 1 and of node 2, 0 before the first, and
-/// how many frames were lost.
+/// What two nodes handed over so far: what became of the calls, the clock of the last event of node 1 and of node 2, 0
+/// before the first, and how many frames were lost.
 #[derive(Clone, Copy)]
 struct Rounds {
     tried: Tried,
@@ -31,7 +31,8 @@ const NO_ROUND: Rounds = Rounds {
     lost: 0,
 };
 
-/// Returns the message that is sent at this clock if a client of node 1 locks the name: its REQUEST, or the REPLY of node 2.
+/// Returns the message that is sent at this clock if a client of node 1 locks the name: its REQUEST, or the REPLY of
+/// node 2.
 fn sent_at(clock: u64) -> Option<Message> {
     match clock {
         1 => Some(request(1, 2, 1)),
@@ -40,7 +41,8 @@ fn sent_at(clock: u64) -> Option<Message> {
     }
 }
 
-/// Has a node hand over what came after an event with this clock. Of one event at most one frame is lost, which was sent.
+/// Has a node hand over what came after an event with this clock. Of one event at most one frame is lost, which was
+/// sent.
 fn node_after<R: AllocGlobal + Wait + Abort>(
     rt: &R,
     cluster: &Cluster<OpenGate>,
@@ -88,9 +90,9 @@ fn use_in_a_round<R: AllocGlobal + Wait + Abort>(rt: &R, cluster: &Cluster<OpenG
     round_after(rt, cluster, NO_ROUND)
 }
 
-/// Returns what became of the rounds. In a cluster that was stopped since a frame could not be sent, one frame was handed over as lost.
-/// In one that was stopped for another cause, it may be that the closed post did not take a frame after that; in any other one, none
-/// is lost. If the client did not lock and unlock the name, memory ran out.
+/// Returns what became of the rounds. In a cluster that was stopped since a frame could not be sent, one frame was
+/// handed over as lost. In one that was stopped for another cause, it may be that the closed post did not take a frame
+/// after that; in any other one, none is lost. If the client did not lock and unlock the name, memory ran out.
 fn judge(rt: &impl Abort, fault: Option<Stop>, rounds: Rounds) -> Result<Tried, Memory> {
     let label = "a cluster that may be stopped";
     let (lost, clock) = (part(label, "lost frames"), part(label, "clock of node 1"));
@@ -113,7 +115,8 @@ fn judge(rt: &impl Abort, fault: Option<Stop>, rounds: Rounds) -> Result<Tried, 
     Err(Memory)
 }
 
-/// Has the client use the name while the threads of the nodes run, with a round, and makes another one after they have ended.
+/// Has the client use the name while the threads of the nodes run, with a round, and makes another one after they have
+/// ended.
 fn try_cluster<R: AllocGlobal + Threads + Wait + Abort + Sync>(
     rt: &R,
     cluster: &Cluster<OpenGate>,

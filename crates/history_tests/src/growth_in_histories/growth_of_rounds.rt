@@ -1,5 +1,5 @@
-//! Each growth that a round asks for is refused: the round answers that memory ran out, nothing is lost, and the next round goes on. A
-//! client that holds can leave all the same.
+//! Each growth that a round asks for is refused: the round answers that memory ran out, nothing is lost, and the next
+//! round goes on. A client that holds can leave all the same.
 use crate::audit_tests::audit_acts::Act::{Audits, Ends, Enters, Leaves, Shows};
 use crate::audit_tests::audit_acts::Answer::Fine;
 use crate::audit_tests::audit_acts::{OF_ONE, Row, try_row};

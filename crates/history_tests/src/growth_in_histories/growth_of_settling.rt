@@ -21,7 +21,8 @@ pub const ONE_LOCK: &[Done] = &[
     AtNode(1, Takes(LEAVE)),
 ];
 
-/// How many steps the run has into which books settle, and how many requests, messages, losses and waiting requests its report tells.
+/// How many steps the run has into which books settle, and how many requests, messages, losses and waiting requests its
+/// report tells.
 type Due = (u64, (u128, u128), (u128, u128));
 
 /// Asserts that books settled into such a run, in which no message is under way.

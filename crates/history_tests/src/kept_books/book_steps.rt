@@ -1,5 +1,5 @@
-//! What the tests of books share: the steps that a book does or shows, one after another. A trace cannot tell them: bytes come that no
-//! node sent, calls are refused, and clocks and frames are compared.
+//! What the tests of books share: the steps that a book does or shows, one after another. A trace cannot tell them:
+//! bytes come that no node sent, calls are refused, and clocks and frames are compared.
 use crate::kept_books::history_asserting::{assert_same, fail_at};
 use crate::kept_books::history_values::bytes_of;
 use Call::{Ask, Leave, Receive};
@@ -313,8 +313,8 @@ fn shows(rt: &impl Abort, at: At<'_>, book: &Book, step: Step<'_>) {
     }
 }
 
-/// Has a book do this step, or asserts that it shows it. Ends the test if it does anything else, and returns whether there was memory
-/// for it.
+/// Has a book do this step, or asserts that it shows it. Ends the test if it does anything else, and returns whether
+/// there was memory for it.
 pub fn does(rt: &impl Abort, alloc: Global, at: At<'_>, book: &mut Book, step: Step<'_>) -> bool {
     match step {
         Takes(call) => return takes(rt, alloc, at, book, call, None),

@@ -362,7 +362,7 @@ const FRAME_ERRORS: &[(BookError, &str)] = &[(BookError::Frame(FrameError::Trail
 fn refusals_and_faults_are_printed_as_their_words(rt: HostRuntime) {
     assert_prints!(&rt, FRAME_ERRORS);
     assert_words!(&rt;
-        BookError: Failed Busy Exhausted NotHeld WrongNode Stranger ClockFull Memory;
+        BookError: Failed Busy Exhausted NotHeld NotWaiting WrongNode Stranger ClockFull Memory;
         Stop: Memory Send Clock Exhausted Frame Refused Gate Spawn;
         MarkLostError: NotSent AlreadyLost);
 }

@@ -38,7 +38,8 @@ fn with<const N: usize>(text: &[u8; N], place: usize, byte: u8) -> [u8; N] {
     bytes
 }
 
-/// Asserts that a book has nothing but the ask: one event, two REQUESTs, the clock 1, no fault, and the number 1, which waits.
+/// Asserts that a book has nothing but the ask: one event, two REQUESTs, the clock 1, no fault, and the number 1, which
+/// waits.
 fn assert_as_before(rt: &impl Abort, at: At<'_>, book: &Book) {
     let node = book.node();
     let came = (node.highest(&r()), node.waiting(), node.queued());
@@ -47,8 +48,8 @@ fn assert_as_before(rt: &impl Abort, at: At<'_>, book: &Book) {
     assert_same(rt, at, &book.fault(), &None);
 }
 
-/// Client 1 of a new book asks for `r` exclusively, and the bytes come. Returns whether the book takes them, or why not. Asserts that
-/// they are its second event if it takes them, and that it is as before otherwise.
+/// Client 1 of a new book asks for `r` exclusively, and the bytes come. Returns whether the book takes them, or why
+/// not. Asserts that they are its second event if it takes them, and that it is as before otherwise.
 fn outcome_at(
     rt: &(impl Abort + AllocGlobal),
     at: At<'_>,

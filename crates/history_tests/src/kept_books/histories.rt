@@ -1,5 +1,5 @@
-//! Books to which something was done, and grants that clients got. The scenes are no traces, since most are no run: a book alone goes
-//! on, shows what it has, or takes what no book sent.
+//! Books to which something was done, and grants that clients got. The scenes are no traces, since most are no run: a
+//! book alone goes on, shows what it has, or takes what no book sent.
 use crate::kept_books::book_steps::Call::Receive;
 use crate::kept_books::book_steps::{Step, does, takes};
 use crate::kept_books::history_asserting::{assert_same, fail_at};
@@ -106,8 +106,8 @@ fn arrives(rt: &impl Abort, alloc: Global, at: At<'_>, books: &mut [Book], frame
     }
 }
 
-/// Flags the frame that the book of a node sent at this place as lost. Returns what the book answers, or `None` if there is no such
-/// frame.
+/// Flags the frame that the book of a node sent at this place as lost. Returns what the book answers, or `None` if
+/// there is no such frame.
 fn mark_lost(books: &mut [Book], number: u16, place: u64) -> Option<Result<(), MarkLostError>> {
     let sent = sent(books, number, place);
     match (books.get_mut(usize::from(number).wrapping_sub(1)), sent) {
@@ -145,8 +145,8 @@ fn are_done(rt: &impl Abort, alloc: Global, words: &str, books: &mut [Book], all
     true
 }
 
-/// Makes these books, and does all of this to them, in order. Ends the test if anything else happens, and returns fewer books if
-/// memory ran out.
+/// Makes these books, and does all of this to them, in order. Ends the test if anything else happens, and returns fewer
+/// books if memory ran out.
 pub fn books_after(
     rt: &impl Abort,
     alloc: Global,

@@ -20,7 +20,8 @@ pub fn new_book(alloc: Global, number: u16, nodes: u16, start: u64) -> Result<Bo
     }
 }
 
-/// Settles books with grants. The contract of `settle` is long, so its callers call it by this function, which has none.
+/// Settles books with grants. The contract of `settle` is long, so its callers call it by this function, which has
+/// none.
 ///
 /// # Errors
 ///

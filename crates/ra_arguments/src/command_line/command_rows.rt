@@ -11,7 +11,7 @@ use std::alloc::{AllocError, Global};
 
 /// The version of the program, and the versions of the formats that it reads. After a release it is the next one with
 /// `-dev`, until that is released.
-const VERSION: &str = "0.2.0-dev (frames 1 and 2, traces 1 and 2)";
+const VERSION: &str = "0.2.0 (frames 1 and 2, traces 1 to 3, books 1 and 2)";
 
 /// Which command it is.
 #[derive(Clone, Copy)]

@@ -124,32 +124,40 @@ and the modes S and X.
   IS   intent shared
   IX   intent exclusive
   SIX  shared and intent exclusive
-A line with `lose` in place of `deliver` loses the message. In version 2, a line
-with `repeat` puts a copy of the message under way.
+A line with `lose` in place of `deliver` loses the message. From version 2 on, a
+line with `repeat` puts a copy of the message under way. Version 3 has three
+more lines, and sends if its first line ends with ` sends`:
+  cancel 1 1 r            the client gives up: it waits or is queued no more
+  withdraw 1 1 r X 1      the mark of a cancel, if the client waited
+  forget 1                the node forgets the names that nobody uses
+  send reply 2 1 r 1      after a step, before its marks: what the step sends
 
 Print `valid` and the numbers of requests and messages, or `invalid`, the first
 wrong line and the cause:
   Line         not a line of a trace, or not allowed here
-  Refused      the client may not ask or release
+  Refused      the client may not ask, release or cancel, or there is no such
+               node
   NotUnderWay  the message was never sent, or was already delivered or lost
+  Sends        the messages are not those that the step sends
   Marks        the marks are not those of the step
   Table        the lock table does not allow the mark
 
 Example: ra sim --trace < script.toml | ra check
 
-With --marks, read a mark log: a line for each request, grant and release of any
-lock service. Each has a node (1 to 64), a client (0 to 2^32 - 1), a name, a
-mode and a number (1 to 2^64 - 1). The number of a request must be above every
-number granted for the name so far.
+With --marks, read a mark log: a line for each request, grant, release and
+withdrawal of any lock service. Each has a node (1 to 64), a client (0 to
+2^32 - 1), a name, a mode and a number (1 to 2^64 - 1). The number of a request
+must be above every number granted for the name so far.
   request 1 1 r X 1
   enter 1 1 r X 1
   leave 1 1 r X 1
+A line with `withdraw` in place of `enter` says that the client gave up.
 Print `valid` and the numbers of requests and grants if the lock table allows
 each mark, or `invalid`, the first wrong line and the cause:
   Line        not a mark
   NodeBusy    a request, but its node already waits for the name or holds it
   NotAbove    a request, but a number granted for the name is as high or higher
-  NotWaiting  a grant, but it was never requested, or was already granted
+  NotWaiting  a grant or a withdrawal, but the request does not wait
   Held        a grant, but a conflicting request holds the name
   Earlier     a grant, but a conflicting request waits with a lower number, or
               with the same number at a lower node
@@ -170,7 +178,8 @@ Read a trace from standard input, as `ra sim --trace` prints it and `ra check
 shows. Each node has a lane, and time goes down. An arrow leads from where a
 message was sent to where it was delivered, a cross marks a message that was
 lost, and a loop one that was repeated. Bars beside the lanes are clients that
-are queued, wait or hold. Rest the pointer on a shape to read what it means.
+are queued, wait or hold. A crossed dot is a client that gives up. Rest the
+pointer on a shape to read what it means.
 
 Example: ra sim --trace < script.toml | ra draw > run.svg
 
@@ -248,10 +257,14 @@ one event per line. Answer each line on standard output.
   ask CLIENT NAME MODE
   release CLIENT NAME
   receive HEX
+  cancel CLIENT NAME
+  forget
 The first line has the node, 1 to NODES, the number of nodes, 1 to 64, and the
 number that each name begins with, 0 to 2^64 - 1. In the others, a client, 0 to
-2^32 - 1, asks for a name or releases it, or a frame of version 1 or 2 comes, as
-hexadecimal digits. A name is 1 to 32 characters from A-Z, a-z, 0-9, _, - and .
+2^32 - 1, asks for a name, releases it or gives up waiting for it, a frame of
+version 1 or 2 comes, as hexadecimal digits, or the node forgets the names that
+nobody uses. A book with a cancel or a forget begins with `book 2`. A name is 1
+to 32 characters from A-Z, a-z, 0-9, _, - and .
   S    shared
   X    exclusive
   IS   intent shared
@@ -266,6 +279,7 @@ answer is `refused` and a word, and the node is as before:
   Busy       the client already waits for the name, is queued or holds it
   Exhausted  no number is left for the name
   NotHeld    the client does not hold the name
+  NotWaiting the client neither waits for the name nor is queued for it
   WrongNode  the frame is for another node
   Stranger   the sender of the frame is this node, or there is no such node
   ClockFull  the event clock would pass 2^62
@@ -334,8 +348,8 @@ Exit status:
   2  refused: standard output has the cause as one word
   3  a run did not finish, or a trace, a mark log or books are not valid";
 
-/// Returns the help of the command `sim`. Each of these texts but the shortest has a function of its own, since the cost of
-/// proving a function grows with the square of the bytes of the texts that it names.
+/// Returns the help of the command `sim`. Each of these texts but the shortest has a function of its own, since the
+/// cost of proving a function grows with the square of the bytes of the texts that it names.
 fn sim_help() -> &'static str
     ensures { result.now ≡ SIM_HELP.now }
 {
@@ -372,7 +386,9 @@ fn settle_help() -> &'static str
 
 /// Returns the help of a command, below its options, or its summary, which names --help.
 fn help_on(kind: CommandKind, is_summary: bool) -> &'static str
-    ensures { result.now ≡ help_of (helps_of ANSWER_HELP.now SIM_HELP.now CLUSTER_HELP.now CHECK_HELP.now DRAW_HELP.now NODE_HELP.now SETTLE_HELP.now SUMMARY_HELP.now STATUS_HELP.now) is_summary kind }
+    ensures { result.now ≡ help_of
+        (helps_of ANSWER_HELP.now SIM_HELP.now CLUSTER_HELP.now CHECK_HELP.now DRAW_HELP.now NODE_HELP.now SETTLE_HELP.now
+        SUMMARY_HELP.now STATUS_HELP.now) is_summary kind }
 {
     match kind {
         _ if is_summary => SUMMARY_HELP,
@@ -410,10 +426,12 @@ fn asks_for_summary(arguments: &[String]) -> bool
     false
 }
 
-/// Returns the help below the options of the command that the arguments name or, if they name none, below the commands of the
-/// program. It does not allocate.
+/// Returns the help below the options of the command that the arguments name or, if they name none, below the commands
+/// of the program. It does not allocate.
 pub fn help_below(arguments: &[String]) -> &'static str
-    ensures { result.now ≡ spec.help_below (helps_of ANSWER_HELP.now SIM_HELP.now CLUSTER_HELP.now CHECK_HELP.now DRAW_HELP.now NODE_HELP.now SETTLE_HELP.now SUMMARY_HELP.now STATUS_HELP.now) (map string_bytes arguments.now) }
+    ensures { result.now ≡ spec.help_below
+        (helps_of ANSWER_HELP.now SIM_HELP.now CLUSTER_HELP.now CHECK_HELP.now DRAW_HELP.now NODE_HELP.now SETTLE_HELP.now
+        SUMMARY_HELP.now STATUS_HELP.now) (map string_bytes arguments.now) }
 {
     match row_named(arguments) {
         Some(row) => help_on(row.kind, asks_for_summary(arguments)),

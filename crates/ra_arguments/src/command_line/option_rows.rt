@@ -285,8 +285,8 @@ impl<'a> OptionRow<'a> {
         self.name
     }
 
-    /// Returns what there is to say of the option if it is given and has no effect under this policy, or `None` if it has one. It
-    /// does not allocate.
+    /// Returns what there is to say of the option if it is given and has no effect under this policy, or `None` if it
+    /// has one. It does not allocate.
     pub fn unused_under(&self, policy: &str) -> Option<&'a str> {
         let effect = self.effect?;
         if effect.policies.contains(&policy) {

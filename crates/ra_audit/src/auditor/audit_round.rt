@@ -41,12 +41,13 @@ impl Auditor {
     /// 4. `NotLost`: a frame that was handed over or noted as lost came or was lost before, or was never sent, as
     ///    [`Auditor::advance`] says. All events that were taken and can be put are in the run. The loss of the frame
     ///    still waits, so that each later round tries it.
-    /// 5. `Memory`: memory ran out before events were taken, and nothing has changed; or while events or losses were put,
-    ///    and an event is due that fits, or no event can be put and some loss is still to be put. The next round goes on.
+    /// 5. `Memory`: memory ran out before events were taken, and nothing has changed; or while events or losses were
+    ///    put, and an event is due that fits, or no event can be put and some loss is still to be put. The next round
+    ///    goes on.
     /// 6. `NotTaken`: the events of a node were not taken, nor those of the nodes after it. What was taken or noted as
     ///    lost is in the run, as far as it can be. If the cause is `Memory`, the next round takes them. `OutOfTurn`
-    ///    comes if the auditor is not that of the round before, which no clause says; nothing of the node is kept. If it
-    ///    is `NotNext`, what the node handed over is kept and can't be its next events, so that no later round takes
+    ///    comes if the auditor is not that of the round before, which no clause says; nothing of the node is kept. If
+    ///    it is `NotNext`, what the node handed over is kept and can't be its next events, so that no later round takes
     ///    events of it. `NoNode` never comes.
     /// 7. `Fault`: a frame that waits as the next event of its node was never sent.
     pub fn audit<R: Wait, G: Gate + Drop, O: MarkObserver>(
@@ -83,7 +84,8 @@ impl Auditor {
         cluster: &mut Cluster<G>,
         observer: &mut O,
     ) -> Result<(), FinishError>
-        ensures round { AnswersRound cluster.old self.old (O.told observer.old) self.new (O.told observer.new) (last_round result) }
+        ensures round { AnswersRound cluster.old self.old (O.told observer.old) self.new (O.told observer.new)
+            (last_round result) }
         ensures granted { O.granted observer.new ≡ O.granted observer.old }
         ensures ended { MatchResult result (λ _. HasAllIn self.new) (RefusesFinish self.new) }
     {
@@ -98,7 +100,8 @@ impl Auditor {
         cluster: &Cluster<G>,
         observer: &mut O,
     ) -> Result<(), FinishError>
-        ensures round { AnswersRound cluster.now self.old (O.told observer.old) self.new (O.told observer.new) (last_round result) }
+        ensures round { AnswersRound cluster.now self.old (O.told observer.old) self.new (O.told observer.new)
+            (last_round result) }
         ensures granted { O.granted observer.new ≡ O.granted observer.old }
         ensures ended { MatchResult result (λ _. HasAllIn self.new) (RefusesFinish self.new) }
     {
@@ -264,7 +267,8 @@ fn take_all<R: Wait, G: Gate + Drop>(
     requires audited_cluster { cluster.now.audited ≡ true }
     ensures more { TakesByAnswer auditor.old auditor.new result }
     ensures kept { OnOk result (NoneIsKept auditor.new.nodes) }
-    ensures not_taken { (node : ℕ) (cause : TakeError) → IsErrOf result (node, cause) → IsNotTaken auditor.new.nodes node cause }
+    ensures not_taken { (node : ℕ) (cause : TakeError) → IsErrOf result (node, cause)
+        → IsNotTaken auditor.new.nodes node cause }
 {
     for place in 0..cluster.nodes() {
         // Nodes are counted from 1.

@@ -53,7 +53,8 @@ impl Auditor {
             (λ e. RefusesClose cluster self.new e.cause e.cluster e.books.items) }
         ensures round { MatchResult result
             (λ _. AnswersRound cluster self.old (O.told observer.old) self.new (O.told observer.new) (Ok tt))
-            (λ e. AnswersRound cluster self.old (O.told observer.old) self.new (O.told observer.new) (round_of e.cause)) }
+            (λ e. AnswersRound cluster self.old (O.told observer.old) self.new (O.told observer.new)
+            (round_of e.cause)) }
         ensures granted { O.granted observer.new ≡ O.granted observer.old }
     {
         if let Err(cause) = self.end(rt, alloc, &cluster, observer) {

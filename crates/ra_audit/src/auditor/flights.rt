@@ -34,7 +34,13 @@ impl Model for Flights {
 
     ghost Value = { FlightState };
 
-    ghost view = { λ f. record { nodes = f.nodes; slots = f.slots.items; others = f.others.entries; clock = f.clock; last = f.last.items } };
+    ghost view = { λ f. record {
+      nodes = f.nodes;
+      slots = f.slots.items;
+      others = f.others.entries;
+      clock = f.clock;
+      last = f.last.items;
+    } };
 
     ghost invariant = { λ f. AreApart f.nodes f.slots.items f.others.entries };
 }
@@ -90,7 +96,10 @@ impl Flights {
     {
         match kind {
             BookKind::Got(frame) => self.has(frame),
-            BookKind::Asked { .. } | BookKind::Gave { .. } => true,
+            BookKind::Asked { .. }
+            | BookKind::Gave { .. }
+            | BookKind::Cancelled { .. }
+            | BookKind::Forgot => true,
         }
     }
 
@@ -102,14 +111,18 @@ impl Flights {
         is_in_slot(&self.slots, slot, frame) || is_among(&self.others, frame)
     }
 
-    /// Returns whether the message of the frame that came by the event, if one did, is under way and was sent by an event with the frame's
-    /// clock, even if that is not noted yet. It does not allocate. The cost is linear in the number of messages that the last event sent.
+    /// Returns whether the message of the frame that came by the event, if one did, is under way and was sent by an
+    /// event with the frame's clock, even if that is not noted yet. It does not allocate. The cost is linear in the
+    /// number of messages that the last event sent.
     pub fn flies_of(&self, kind: &BookKind) -> bool
         ensures { IsTrue result ↔ All (λ frame. HasClock self.now frame.message frame.clock) (frames_in kind.now) }
     {
         match kind {
             BookKind::Got(frame) => self.flies(frame),
-            BookKind::Asked { .. } | BookKind::Gave { .. } => true,
+            BookKind::Asked { .. }
+            | BookKind::Gave { .. }
+            | BookKind::Cancelled { .. }
+            | BookKind::Forgot => true,
         }
     }
 
@@ -124,7 +137,8 @@ impl Flights {
     /// Goes on after an event that sent these messages: the message of the frame that came by it, if one did, is under
     /// way no longer. It does not allocate.
     pub fn go_on(&mut self, event: &BookEvent, sends: Messages)
-        ensures { FliesAfter self.old (map (λ f. f.message) (frames_in event.now.kind)) event.now.clock sends.items self.new }
+        ensures { FliesAfter self.old (map (λ f. f.message)
+            (frames_in event.now.kind)) event.now.clock sends.items self.new }
     {
         self.take_of(&event.kind);
         self.send(event.clock, sends);
@@ -140,11 +154,15 @@ impl Flights {
 
     /// Takes the message of the frame that came by an event, if one did.
     fn take_of(&mut self, kind: &BookKind)
-        ensures { FliesAfter self.old (map (λ f. f.message) (frames_in kind.now)) self.old.clock self.old.last self.new }
+        ensures { FliesAfter self.old (map (λ f. f.message)
+            (frames_in kind.now)) self.old.clock self.old.last self.new }
     {
         match kind {
             BookKind::Got(frame) => self.take(&frame.message),
-            BookKind::Asked { .. } | BookKind::Gave { .. } => {}
+            BookKind::Asked { .. }
+            | BookKind::Gave { .. }
+            | BookKind::Cancelled { .. }
+            | BookKind::Forgot => {}
         }
     }
 

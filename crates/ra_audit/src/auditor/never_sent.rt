@@ -58,7 +58,8 @@ fn unsent_of(nodes: &[NodeProgress], progress: &NodeProgress, known: u64) -> Opt
     requires not_ready { IsReady nodes.now progress.now → ⊥ }
     ensures may { IsNone result → (event : BookEvent) → slice_get progress.now.waiting 0 ≡ Some event
         → MayCome nodes.now (known < event.clock) event.kind }
-    ensures unsent { IfSome result (λ fault. (fault.node ≡ progress.now.node) × (slice_get progress.now.waiting 0 ≡ Some fault.event)
+    ensures unsent { IfSome result
+        (λ fault. (fault.node ≡ progress.now.node) × (slice_get progress.now.waiting 0 ≡ Some fault.event)
         × IsOfNone nodes.now (fault.event.clock ≤ known) fault.event.kind) }
 {
     let event = progress.next()?;
@@ -83,7 +84,10 @@ fn may_come(nodes: &[NodeProgress], kind: &BookKind, came: u64, known: u64) -> b
             Some(progress) => may_come_from(progress, frame.clock, came, known),
             None => true,
         },
-        BookKind::Asked { .. } | BookKind::Gave { .. } => true,
+        BookKind::Asked { .. }
+        | BookKind::Gave { .. }
+        | BookKind::Cancelled { .. }
+        | BookKind::Forgot => true,
     }
 }
 

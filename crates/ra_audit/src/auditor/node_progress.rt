@@ -220,7 +220,10 @@ impl NodeProgress {
     ///
     /// `NotNext` or `Memory`, as `take` does, and they are still kept.
     fn take_kept(&mut self, alloc: Global) -> Result<(), TakeError>
-        ensures ok { OnOk result (self.new ≡ record self.old { waiting = self.old.waiting ++ self.old.kept; kept = [] }) }
+        ensures ok { OnOk result (self.new ≡ record self.old {
+          waiting = self.old.waiting ++ self.old.kept;
+          kept = [];
+        }) }
         ensures not_next { IsErrOf result TakeError.NotNext ↔ (KeptAreNext self.new → ⊥) }
         ensures memory { IsErrOf result TakeError.Memory → KeptAreNext self.new }
         ensures others { (IsErrOf result TakeError.NoNode → ⊥) × (IsErrOf result TakeError.OutOfTurn → ⊥) }
@@ -289,6 +292,9 @@ fn is_for(node: NodeId, kind: &BookKind) -> bool
 {
     match kind {
         BookKind::Got(frame) => frame.message.to() == node,
-        BookKind::Asked { .. } | BookKind::Gave { .. } => true,
+        BookKind::Asked { .. }
+        | BookKind::Gave { .. }
+        | BookKind::Cancelled { .. }
+        | BookKind::Forgot => true,
     }
 }

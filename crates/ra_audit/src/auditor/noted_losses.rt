@@ -73,7 +73,10 @@ impl Losses {
     ///
     /// `Memory`: there is no room for them, and none is noted.
     pub fn note(&mut self, frames: &[Frame]) -> Result<(), Memory>
-        ensures ok { OnOk result (self.new ≡ record self.old { losing = self.old.losing ++ frames.now; noted = self.old.noted ++ frames.now }) }
+        ensures ok { OnOk result (self.new ≡ record self.old {
+          losing = self.old.losing ++ frames.now;
+          noted = self.old.noted ++ frames.now;
+        }) }
         ensures err { OnErr result (self.new ≡ self.old) }
     {
         add(&mut self.noted, frames)

@@ -41,7 +41,8 @@ pub fn put_all<O: MarkObserver>(
     ensures granted { O.granted observer.new ≡ O.granted observer.old }
     ensures unlost { lost_by world.new.moves ≡ lost_by world.old.moves }
     ensures ok { OnOk result (NoneIsReady nodes.new) }
-    ensures fault { (fault : AuditFault) → IsErrOf result (AuditError.Fault fault) → IsMisfit world.new nodes.new fault }
+    ensures fault { (fault : AuditFault) → IsErrOf result (AuditError.Fault fault)
+        → IsMisfit world.new nodes.new fault }
     ensures memory { IsErrOf result AuditError.Memory → CanGoOn world.new nodes.new }
     ensures not_lost { (frame : Frame) → IsErrOf result (AuditError.NotLost frame) → ⊥ }
 {
@@ -79,7 +80,8 @@ fn put_next<O: MarkObserver>(
     ensures tracked { IsTracked nodes.new world.new.moves flights.new }
     ensures stay { StaySent nodes.old world.old.moves nodes.new world.new.moves }
     ensures fewer { OnOk result (sum_by (λ p. length p.waiting) nodes.new < sum_by (λ p. length p.waiting) nodes.old) }
-    ensures fault { (fault : AuditFault) → IsErrOf result (AuditError.Fault fault) → IsMisfit world.new nodes.new fault }
+    ensures fault { (fault : AuditFault) → IsErrOf result (AuditError.Fault fault)
+        → IsMisfit world.new nodes.new fault }
     ensures memory { IsErrOf result AuditError.Memory → CanGoOn world.new nodes.new }
     ensures not_lost { (frame : Frame) → IsErrOf result (AuditError.NotLost frame) → ⊥ }
 {
@@ -107,8 +109,8 @@ fn put_next<O: MarkObserver>(
     }
 }
 
-/// Returns why the next event of the node at this place is not put if there is no room to note what the last event sent: memory ran out,
-/// unless the event does not fit the run. It does not allocate.
+/// Returns why the next event of the node at this place is not put if there is no room to note what the last event
+/// sent: memory ran out, unless the event does not fit the run. It does not allocate.
 fn refusal_without_room(
     world: &MarklessWorld,
     nodes: &[NodeProgress],
@@ -206,7 +208,10 @@ fn is_due(nodes: &[NodeProgress], kind: &BookKind) -> bool
 {
     match kind {
         BookKind::Got(frame) => is_reached(nodes, frame),
-        BookKind::Asked { .. } | BookKind::Gave { .. } => true,
+        BookKind::Asked { .. }
+        | BookKind::Gave { .. }
+        | BookKind::Cancelled { .. }
+        | BookKind::Forgot => true,
     }
 }
 

@@ -25,7 +25,8 @@ use std::alloc::Global;
 /// 1. `Fault`: an event that is due does not fit the run.
 /// 2. `NotLost`: all events that can be put are in the run, and it has come to a frame whose loss is still to be put,
 ///    but the message is not under way, or was not sent with the frame's clock.
-/// 3. `Memory`: an event is due that fits, or all events that can be put are in the run, and some loss is still to be put.
+/// 3. `Memory`: an event is due that fits, or all events that can be put are in the run, and some loss is still to be
+///    put.
 pub fn put_events_and_losses<O: MarkObserver>(
     alloc: Global,
     world: &mut MarklessWorld,
@@ -40,7 +41,8 @@ pub fn put_events_and_losses<O: MarkObserver>(
     ensures granted { O.granted observer.new ≡ O.granted observer.old }
     ensures losses { PutsLosses nodes.new losses.old.losing losses.old.lost losses.new.losing losses.new.lost }
     ensures ok { OnOk result (NoneIsReady nodes.new × NoneIsReached nodes.new losses.new.losing) }
-    ensures fault { (fault : AuditFault) → IsErrOf result (AuditError.Fault fault) → IsMisfit world.new nodes.new fault }
+    ensures fault { (fault : AuditFault) → IsErrOf result (AuditError.Fault fault)
+        → IsMisfit world.new nodes.new fault }
     ensures memory { IsErrOf result AuditError.Memory
         → CanGoOn world.new nodes.new ⊎ (NoneIsReady nodes.new × (0 < length losses.new.losing)) }
     ensures not_lost { (frame : Frame) → IsErrOf result (AuditError.NotLost frame)

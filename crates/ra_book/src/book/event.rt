@@ -8,8 +8,12 @@ pub enum BookKind {
     Asked { client: u32, name: Name, mode: Mode },
     /// A client of the node left a name.
     Gave { client: u32, name: Name },
+    /// A client of the node gave up a name for which it waited or was queued.
+    Cancelled { client: u32, name: Name },
     /// A frame came.
     Got(Frame),
+    /// The node forgot names.
+    Forgot,
 }
 
 /// An event of a node, and its clock (L. Lamport, CACM 21(7), 1978).

@@ -13,7 +13,7 @@ use ra_node::Node;
 ///
 /// # Errors
 ///
-/// `Busy`, `Exhausted`, `NotHeld`, `WrongNode`, `Stranger`: it does not, as its call says.
+/// `Busy`, `Exhausted`, `NotHeld`, `NotWaiting`, `WrongNode`, `Stranger`: it does not, as its call says.
 fn check_node(node: &Node, kind: &BookKind) -> Result<(), BookError>
     ensures { MatchResult result (λ _. MayTake node.now kind.now) (NodeRefuses node.now kind.now) }
 {
@@ -26,7 +26,15 @@ fn check_node(node: &Node, kind: &BookKind) -> Result<(), BookError>
                 Err(BookError::NotHeld)
             }
         }
+        BookKind::Cancelled { client, name } => {
+            if node.is_kept_waiting(*client, name) {
+                Ok(())
+            } else {
+                Err(BookError::NotWaiting)
+            }
+        }
         BookKind::Got(frame) => Ok(node.check_address(&frame.message)?),
+        BookKind::Forgot => Ok(()),
     }
 }
 
@@ -36,7 +44,7 @@ fn check_node(node: &Node, kind: &BookKind) -> Result<(), BookError>
 ///
 /// The first that holds:
 ///
-/// 1. `Busy`, `Exhausted`, `NotHeld`, `WrongNode`, `Stranger`: the node does not take it.
+/// 1. `Busy`, `Exhausted`, `NotHeld`, `NotWaiting`, `WrongNode`, `Stranger`: the node does not take it.
 /// 2. `ClockFull`: the clock would pass 2^62.
 pub fn check_event(node: &Node, clock: u64, kind: &BookKind) -> Result<u64, BookError>
     ensures checked { MatchResult result (CanHappen node.now clock kind.now) (IsRefusedAfter node.now clock kind.now) }
@@ -59,10 +67,10 @@ pub fn room_refusal(node: &Node, frame: &Frame) -> BookError
     BookError::Memory
 }
 
-/// Returns why an event of this kind is refused at a node if there is no memory for it, and this is the clock before it. Each other
-/// cause comes before `Memory`. It does not allocate.
+/// Returns why an event of this kind is refused at a node if there is no memory for it, and this is the clock before
+/// it. Each other cause comes before `Memory`. It does not allocate.
 ///
-/// 1. `Busy`, `Exhausted`, `NotHeld`, `WrongNode`, `Stranger`: the node does not take it.
+/// 1. `Busy`, `Exhausted`, `NotHeld`, `NotWaiting`, `WrongNode`, `Stranger`: the node does not take it.
 /// 2. `ClockFull`: the clock would pass 2^62.
 /// 3. `Memory`: otherwise.
 pub fn event_refusal(node: &Node, clock: u64, kind: &BookKind) -> BookError

@@ -1,4 +1,5 @@
-//! The room in a book's lists for what comes next: one event, and the leaves of the clients that wait, are queued or hold.
+//! The room in a book's lists for what comes next: one event, and the leaves or cancels of the clients that wait, are
+//! queued or hold.
 ghost use Rattle.std.specs.Prelude.{◌≡◌, ◌+◌, ◌*◌, ◌≤◌, ◌^◌, [], length, vec_len, vec_capacity, IfOk};
 ghost use Rattle.ra_book.specs.Departures.{HasGrown, HasRoomMade, IsDeparture};
 ghost use Rattle.ra_book.specs.Keeping as spec;
@@ -8,8 +9,8 @@ use crate::{Events, Frames, Sent};
 use ra_stamp::{Memory, Message, Sequence};
 use std::alloc::Global;
 
-/// Makes room for an ask at one of this many nodes, and for the leaves after it, among them that of the client that asks. Returns a list
-/// for the frames that the ask posts, and what the client's leave will need.
+/// Makes room for an ask at one of this many nodes, and for the leaves after it, among them that of the client that
+/// asks. Returns a list for the frames that the ask posts, and what the client's leave will need.
 ///
 /// # Errors
 ///
@@ -38,8 +39,8 @@ pub fn room_to_ask(
     Ok((frames, departure))
 }
 
-/// Makes room for one more event that sends at most this many messages, and after it for this many leaves at one of this
-/// many nodes. Returns a list for the frames that the event posts.
+/// Makes room for one more event that sends at most this many messages, and after it for this many leaves at one of
+/// this many nodes. Returns a list for the frames that the event posts.
 ///
 /// # Errors
 ///

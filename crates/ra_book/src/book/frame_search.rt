@@ -7,8 +7,8 @@ use crate::Sent;
 use ra_frame::Frame;
 use ra_stamp::{Message, NodeId};
 
-/// Returns the place of the first sent frame that is equal to this one, or `None`. The cost is logarithmic in the number of the
-/// sent frames, and linear in how many of them have its clock, which are those of one event.
+/// Returns the place of the first sent frame that is equal to this one, or `None`. The cost is logarithmic in the
+/// number of the sent frames, and linear in how many of them have its clock, which are those of one event.
 pub fn place_of(sent: &[Sent], frame: &Frame) -> Option<usize>
     requires { Ascends sent.now }
     ensures { MatchOption result (All (λ s. s.frame ≢ frame.now) sent.now) (IsFirstAt sent.now frame.now) }
@@ -25,9 +25,9 @@ pub fn place_of(sent: &[Sent], frame: &Frame) -> Option<usize>
     None
 }
 
-/// Returns whether this frame is among those that were sent, and not flagged lost. If the frames of one clock are in the order of
-/// [`rank_of`], as those of an event of a node are, the cost of a frame that is there is logarithmic in the number of the sent
-/// frames. Otherwise it is that of [`place_of`].
+/// Returns whether this frame is among those that were sent, and not flagged lost. If the frames of one clock are in
+/// the order of [`rank_of`], as those of an event of a node are, the cost of a frame that is there is logarithmic in
+/// the number of the sent frames. Otherwise it is that of [`place_of`].
 pub fn is_kept(sent: &[Sent], frame: &Frame) -> bool
     requires { Ascends sent.now }
     ensures { IsTrue result ↔ Contains sent.now (record { frame = frame.now; lost = false }) }
@@ -50,10 +50,11 @@ pub fn is_kept(sent: &[Sent], frame: &Frame) -> bool
     false
 }
 
-/// Returns the place before which each frame has a lesser clock than this one, or this clock and a rank below this one. If the
-/// rank is not 0, and the frames of one clock are not in the order of [`rank_of`], it may be any place.
+/// Returns the place before which each frame has a lesser clock than this one, or this clock and a rank below this one.
+/// If the rank is not 0, and the frames of one clock are not in the order of [`rank_of`], it may be any place.
 fn place_before(sent: &[Sent], clock: u64, rank: u16) -> usize
-    ensures { Ascends sent.now → rank ≡ 0 → (k : ℕ) (d : Sent) → k < result → (slice_index_or sent.now k d).frame.clock < clock }
+    ensures { Ascends sent.now → rank ≡ 0 → (k : ℕ) (d : Sent) → k < result
+        → (slice_index_or sent.now k d).frame.clock < clock }
 {
     sent.partition_point(
         |other| -> bool
@@ -65,8 +66,8 @@ fn place_before(sent: &[Sent], clock: u64, rank: u16) -> usize
     )
 }
 
-/// Returns which one of the messages of an event a message is: each REPLY comes before each REQUEST, and those of one kind ascend
-/// by the node that they are for.
+/// Returns which one of the messages of an event a message is: each REPLY comes before each REQUEST, and those of one
+/// kind ascend by the node that they are for.
 fn rank_of(message: &Message) -> u16 {
     match *message {
         Message::Reply { to, .. } => to.get(),

@@ -25,7 +25,10 @@ pub fn clock_after(clock: u64, kind: &BookKind) -> Result<u64, BookError>
 {
     let latest = match kind {
         BookKind::Got(frame) => clock.max(frame.clock),
-        BookKind::Asked { .. } | BookKind::Gave { .. } => clock,
+        BookKind::Asked { .. }
+        | BookKind::Gave { .. }
+        | BookKind::Cancelled { .. }
+        | BookKind::Forgot => clock,
     };
     if latest < Frame::MAX_CLOCK {
         Ok(latest + 1)
@@ -42,10 +45,13 @@ pub fn keep(
     event: BookEvent,
     outcome: Outcome,
 ) -> Posted
-    requires { HasEventRoom (length outcome.sends.items) events.old.spare (vec_len sent.old) (vec_capacity sent.old) frames }
-    ensures kept { (old new : NodeState) → NodeEvent old (node_event event.kind) outcome.sends.items outcome.marks.items new
+    requires { HasEventRoom (length outcome.sends.items) events.old.spare (vec_len sent.old)
+        (vec_capacity sent.old) frames }
+    ensures kept { (old new : NodeState)
+        → NodeEvent old (node_event event.kind) outcome.sends.items outcome.marks.items new
         → Happens old new events.old.items events.new.items sent.old.items sent.new.items event result }
-    ensures used { UsesRoom (length outcome.sends.items) events.old.spare events.new.spare (vec_len sent.old) (vec_len sent.new)
+    ensures used { UsesRoom (length outcome.sends.items) events.old.spare events.new.spare (vec_len sent.old)
+        (vec_len sent.new)
         (vec_capacity sent.old) (vec_capacity sent.new) }
 {
     let clock = event.clock;
@@ -55,7 +61,8 @@ pub fn keep(
     Posted { frames, marks }
 }
 
-/// Puts the frames that carry messages at this clock into both lists, which have room for them. None of them is lost yet.
+/// Puts the frames that carry messages at this clock into both lists, which have room for them. None of them is lost
+/// yet.
 fn put_frames(frames: &mut Frames, sent: &mut Vec<Sent>, clock: u64, sends: &[Message])
     requires frames { length sends.now ≤ frames.old.spare }
     requires sent { vec_len sent.old + length sends.now ≤ vec_capacity sent.old }
@@ -66,7 +73,8 @@ fn put_frames(frames: &mut Frames, sent: &mut Vec<Sent>, clock: u64, sends: &[Me
 {
     for message in sends {
         let message = *message;
-        // The frame is copied through a borrow, since the proof of a copy of the variable is not told of the type of its message.
+        // The frame is copied through a borrow, since the proof of a copy of the variable is not told of the type of
+        // its message.
         let frame = &Frame { clock, message };
         frames.push(*frame).unwrap();
         let frame = *frame;

@@ -7,8 +7,8 @@ use crate::{BookEvent, Events, Sent};
 use ra_stamp::GhostList;
 use std::marker::Model;
 
-/// The events and frames that were taken from a book. They are not kept: contracts see them, and the program knows whether
-/// there are any, and the clock of the last event.
+/// The events and frames that were taken from a book. They are not kept: contracts see them, and the program knows
+/// whether there are any, and the clock of the last event.
 #[derive(Drop)]
 pub struct Taken {
     some: bool,
@@ -59,7 +59,11 @@ impl Taken {
 
     /// Notes that these events and frames are taken, which come after those before.
     pub fn take(&mut self, events: &Events, sent: &Vec<Sent>)
-        ensures { self.new ≡ record { some = true; events = self.old.events ++ events.now.items; sent = self.old.sent ++ sent.now.items } }
+        ensures { self.new ≡ record {
+          some = true;
+          events = self.old.events ++ events.now.items;
+          sent = self.old.sent ++ sent.now.items;
+        } }
     {
         self.clock = latest_of(self.clock, events.as_slice());
         self.events = self.events.and(events);
@@ -68,8 +72,8 @@ impl Taken {
     }
 }
 
-/// Returns the clock of the last of these events, which come after an event with this clock; if there are none, it is this
-/// clock.
+/// Returns the clock of the last of these events, which come after an event with this clock; if there are none, it is
+/// this clock.
 pub fn latest_of(clock: u64, events: &[BookEvent]) -> u64
     ensures { result ≡ clock_from clock events.now }
 {

@@ -8,8 +8,8 @@ ghost use Rattle.ra_book.specs.Settled.{IsCluster, IsSettledRun};
 
 use ra_world::each_other_node_overtakes_at_most_once;
 
-/// What the books say is fair: in a settled run, with copies or without, each other node overtakes a waiting request at most
-/// once after its REQUEST has arrived there.
+/// What the books say is fair: in a settled run, with copies or without, each other node overtakes a waiting request at
+/// most once after its REQUEST has arrived there.
 pub fn settled_runs_are_fair()
     ensures settled { (books : List BookState) (moves : List Move) → IsCluster books → All HasHistory books
         → IsSettledRun books moves → IsFair (length books) moves }

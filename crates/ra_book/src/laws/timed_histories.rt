@@ -7,11 +7,12 @@ ghost use Rattle.ra_book.specs.History.{IsHistory, Posting, clock_of, frames_of}
 ghost use Rattle.ra_book.specs.Book.{as_sent};
 ghost use Rattle.ra_book.specs.Timed.{Timed, TakesEach, opening};
 
-/// What a node with a clock took is a history, and each history is what such a node took. So a book is a node with a clock
-/// and the lists of what it took.
+/// What a node with a clock took is a history, and each history is what such a node took. So a book is a node with a
+/// clock and the lists of what it took.
 pub fn timed_nodes_have_histories()
     // The events lead to the node as it is then, and the clock of the last one is the node's.
-    ensures history { (me n start : ℕ) (postings : List Posting) (new : Timed) → TakesEach (opening me n start) postings new
+    ensures history { (me n start : ℕ) (postings : List Posting) (new : Timed)
+        → TakesEach (opening me n start) postings new
         → (history : IsHistory me n start (map (λ p. p.event) postings) (as_sent (frames_of postings)) new.node)
         × (history.postings ≡ postings) × (clock_of (map (λ p. p.event) postings) ≡ new.clock) }
     ensures taken { (me n start : ℕ) (events : List BookEvent) (sent : List Sent) (node : NodeState)

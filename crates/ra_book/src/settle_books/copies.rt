@@ -19,15 +19,16 @@ use ra_world::{Step, Steps};
 use std::alloc::Global;
 use std::collections::BTreeSet;
 
-/// Puts the step of an event after these steps, and then a repeat if the event gets a frame that a later event gets again. The
-/// steps are in reverse order. The set has the frames that come by the later events.
+/// Puts the step of an event after these steps, and then a repeat if the event gets a frame that a later event gets
+/// again. The steps are in reverse order. The set has the frames that come by the later events.
 fn push_back(
     back: &mut Vec<Step>,
     later: &mut BTreeSet<FrameKey>,
     one: &PlacedEvent,
 ) -> Result<(), Memory>
     ensures { (placed : List Placed) → HasCome later.old placed → AreWithCopies placed (reverse back.old.items)
-        → OnOk result (HasCome later.new (placed_at one.now ∷ placed) × AreWithCopies (placed_at one.now ∷ placed) (reverse back.new.items)) }
+        → OnOk result (HasCome later.new (placed_at one.now ∷ placed)
+        × AreWithCopies (placed_at one.now ∷ placed) (reverse back.new.items)) }
 {
     // Room for both comes first, so that no step is put whose repeat can't be.
     back.reserve(2)?;
@@ -42,8 +43,8 @@ fn push_back(
     Ok(())
 }
 
-/// Returns the steps of the events of all books in the settled order, with copies, in reverse order. The cost is n log n, and
-/// k n for k books.
+/// Returns the steps of the events of all books in the settled order, with copies, in reverse order. The cost is n log
+/// n, and k n for k books.
 fn steps_back(alloc: Global, books: &[Book]) -> Result<Vec<Step>, Memory>
     requires { IsCluster books.now }
     ensures { IfOk result (λ back. (placed : List Placed) × IsSettledOrder books.now placed
@@ -60,11 +61,12 @@ fn steps_back(alloc: Global, books: &[Book]) -> Result<Vec<Step>, Memory>
     Ok(back)
 }
 
-/// Returns the steps of the events of all books in the settled order, with copies: directly before each by which a frame comes
-/// that comes by a later one again, a repeat of its message. The cost is n log n, and k n for k books.
+/// Returns the steps of the events of all books in the settled order, with copies: directly before each by which a
+/// frame comes that comes by a later one again, a repeat of its message. The cost is n log n, and k n for k books.
 fn steps_with_copies(alloc: Global, books: &[Book]) -> Result<Steps, Memory>
     requires { IsCluster books.now }
-    ensures { IfOk result (λ steps. (placed : List Placed) × IsSettledOrder books.now placed × AreWithCopies placed steps.items) }
+    ensures { IfOk result
+        (λ steps. (placed : List Placed) × IsSettledOrder books.now placed × AreWithCopies placed steps.items) }
 {
     let mut back = steps_back(alloc, books)?;
     back.reverse();
@@ -92,12 +94,12 @@ fn run_with_copies(alloc: Global, books: &[Book]) -> Result<Settled, SettleError
     run_steps(alloc, books, steps)
 }
 
-/// Settles the books of a cluster, none of whose frames is flagged lost, into one run of it, also if frames came more than
-/// once. The run has the events of all books by clock, and those of one clock by node. If an event gets a frame that comes
-/// again later, a repeat of the frame's message is directly before that event. So a frame that comes n times is repeated n - 1
-/// times. Two frames are two also if they carry one message, with two clocks. Books settle, unless memory runs out, exactly if
-/// each frame that came was sent. With n events and frames sent and k books the cost is that of the run, plus n log n and k n;
-/// memory is linear in n.
+/// Settles the books of a cluster, none of whose frames is flagged lost, into one run of it, also if frames came more
+/// than once. The run has the events of all books by clock, and those of one clock by node. If an event gets a frame
+/// that comes again later, a repeat of the frame's message is directly before that event. So a frame that comes n times
+/// is repeated n - 1 times. Two frames are two also if they carry one message, with two clocks. Books settle, unless
+/// memory runs out, exactly if each frame that came was sent. With n events and frames sent and k books the cost is
+/// that of the run, plus n log n and k n; memory is linear in n.
 ///
 /// # Errors
 ///
@@ -109,7 +111,8 @@ pub fn settle_with_copies(alloc: Global, books: &[Book]) -> Result<Settled, Sett
     // The steps are a settled run with copies, and the report is that of the run.
     ensures settled_run { IfOk result (λ settled. (moves : List Move)
         × (map (λ move. move.step) moves ≡ settled.steps.items)
-        × IsSettledRunWithCopies books.now moves × Reports (length books.now) (start_of books.now) moves settled.report) }
+        × IsSettledRunWithCopies books.now moves
+        × Reports (length books.now) (start_of books.now) moves settled.report) }
     ensures main_theorem { IfOk result (λ settled. MainTheorem (length books.now) settled.report) }
     ensures not_sent { HasUnsent books.now ↔ IsErrOf result SettleError.NotSent }
     ensures settles { (HasUnsent books.now → ⊥) → IsOkUnless result SettleError.Memory }

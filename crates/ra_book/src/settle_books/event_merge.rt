@@ -39,8 +39,8 @@ struct Head {
     clock: u64,
 }
 
-/// Returns the steps that the events of all books are, by clock and then by node. Each turn looks through the clocks of the next
-/// events of the books, which are in a list of their own, and takes one event.
+/// Returns the steps that the events of all books are, by clock and then by node. Each turn looks through the clocks of
+/// the next events of the books, which are in a list of their own, and takes one event.
 pub fn steps_in_order(alloc: Global, books: &[Book]) -> Result<Steps, Memory>
     requires { IsCluster books.now }
     ensures { IfOk result (λ steps. (placed : List Placed) × IsSettledOrder books.now placed
@@ -54,7 +54,8 @@ pub fn steps_in_order(alloc: Global, books: &[Book]) -> Result<Steps, Memory>
     Ok(steps)
 }
 
-/// Returns the events of all books, by clock and then by node, with their nodes. The cost is that of [`steps_in_order`].
+/// Returns the events of all books, by clock and then by node, with their nodes. The cost is that of
+/// [`steps_in_order`].
 pub fn events_in_order(alloc: Global, books: &[Book]) -> Result<Sequence<PlacedEvent>, Memory>
     requires { IsCluster books.now }
     ensures { IfOk result (λ events. IsSettledOrder books.now (all_placed_at events.items)) }
@@ -81,8 +82,8 @@ fn first_events(alloc: Global, books: &[Book]) -> Result<Vec<Next>, Memory>
     Ok(nexts)
 }
 
-/// Takes the next event of all books: the one with the least clock, and of those the one at the least node. Returns `None` if all
-/// are taken. It looks through the clocks, and reads two events of the one book.
+/// Takes the next event of all books: the one with the least clock, and of those the one at the least node. Returns
+/// `None` if all are taken. It looks through the clocks, and reads two events of the one book.
 fn take_earliest(books: &[Book], nexts: &mut [Next]) -> Option<Turn>
     requires { AreNext books.now nexts.old }
     ensures earliest { IsEarliest books.now (taken_of nexts.old) (length books.now) result }
@@ -100,7 +101,8 @@ fn take_earliest(books: &[Book], nexts: &mut [Next]) -> Option<Turn>
     })
 }
 
-/// Returns the place of the book that has the next event of all books, and the clock of that event, or `None` if all are taken.
+/// Returns the place of the book that has the next event of all books, and the clock of that event, or `None` if all
+/// are taken.
 fn first_head(nexts: &[Next]) -> Option<Head>
     ensures { (books : List BookState) → AreNext books nexts.now
         → IsHeadOfEarliest books (taken_of nexts.now) (length books) result }
@@ -167,6 +169,8 @@ pub fn step_of(node: NodeId, kind: &BookKind) -> Step
             mode,
         },
         BookKind::Gave { client, name } => Step::Leave { node, client, name },
+        BookKind::Cancelled { client, name } => Step::Cancel { node, client, name },
         BookKind::Got(frame) => Step::Deliver(frame.message),
+        BookKind::Forgot => Step::Forget { node },
     }
 }

@@ -9,8 +9,8 @@ use ra_stamp::Mark;
 use std::alloc::Global;
 use std::collections::BTreeSet;
 
-/// Checks that the request of each grant has an Entered mark, and that no two grants are equal. With the requests in sets, the
-/// cost of each grant and mark is logarithmic.
+/// Checks that the request of each grant has an Entered mark, and that no two grants are equal. With the requests in
+/// sets, the cost of each grant and mark is logarithmic.
 ///
 /// # Errors
 ///

@@ -1,12 +1,12 @@
-//! Requests, messages and frames as keys, by which sets order them and look them up: their own types have no order that means
-//! anything.
+//! Requests, messages and frames as keys, by which sets order them and look them up: their own types have no order that
+//! means anything.
 ghost use Rattle.std.specs.Prelude.{◌≡◌};
 ghost use Rattle.ra_book.specs.Keys as spec;
 
 use ra_stamp::{Entry, Message, Mode, Name, NodeId};
 
-/// All of a request or of a message, in this order: its number; the node that asks, or that the message is from; the client that
-/// asks, or the node that the message is for; the number of the mode, which is 0 for a REPLY; and the name.
+/// All of a request or of a message, in this order: its number; the node that asks, or that the message is from; the
+/// client that asks, or the node that the message is for; the number of the mode, which is 0 for a REPLY; and the name.
 pub type OrderKey = (u64, NodeId, u32, u8, Name);
 
 /// All of a frame: its clock, and the key of its message.

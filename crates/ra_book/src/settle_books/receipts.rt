@@ -10,9 +10,9 @@ use ra_stamp::Memory;
 use std::alloc::Global;
 use std::collections::BTreeSet;
 
-/// Checks that each frame that came was sent and not lost, and that no message came twice. The frames that a book sent ascend by
-/// clock, and a node sends those of one event in order, so that the cost of each that came is logarithmic. The messages are in a
-/// set, so that the cost of each is logarithmic, too.
+/// Checks that each frame that came was sent and not lost, and that no message came twice. The frames that a book sent
+/// ascend by clock, and a node sends those of one event in order, so that the cost of each that came is logarithmic.
+/// The messages are in a set, so that the cost of each is logarithmic, too.
 ///
 /// # Errors
 ///
@@ -52,8 +52,8 @@ pub fn were_sent(books: &[Book]) -> bool
     true
 }
 
-/// Returns whether the books of a cluster have a frame as one that its sender sent: with this clock and message, and not flagged
-/// lost. It does not allocate. The cost is that of [`Book::mark_lost`].
+/// Returns whether the books of a cluster have a frame as one that its sender sent: with this clock and message, and
+/// not flagged lost. It does not allocate. The cost is that of [`Book::mark_lost`].
 pub fn was_sent(books: &[Book], frame: &Frame) -> bool
     requires { IsCluster books.now }
     ensures { IsTrue result ↔ WasSent books.now frame.now }
@@ -64,7 +64,8 @@ pub fn was_sent(books: &[Book], frame: &Frame) -> bool
     }
 }
 
-/// Returns whether no message came twice. The set takes memory, and without one it would take time quadratic in the messages.
+/// Returns whether no message came twice. The set takes memory, and without one it would take time quadratic in the
+/// messages.
 fn has_no_duplicates(alloc: Global, books: &[Book]) -> Result<bool, Memory>
     ensures { IfOk result (λ once. MatchBool once
         (AllPairs (λ a b. a ≢ b) (map (λ f. f.message) (all_received books.now))) (HasTwice books.now)) }

@@ -10,20 +10,26 @@ use crate::answering::line_refusal::refused_line;
 use crate::answering::waiting_output::{Output, put};
 use crate::next_line::event_line::event_of;
 use crate::next_line::kept_line::KeptLine;
-use crate::{Refusal, TimedNode};
+use crate::{BookVersion, Refusal, TimedNode};
 use ra_node::Outcome;
 use std::alloc::Global;
 use std::io::Write;
 
-/// Hands a line to a node, and returns what the node sends and marks.
+/// Hands a line of a book of this version to a node, and returns what the node sends and marks.
 ///
 /// # Errors
 ///
-/// `Line` for a line that is too long, and those of `event_of` and of [`TimedNode::take`]. The node is as before.
-fn react(alloc: Global, node: &mut TimedNode, line: &KeptLine) -> Result<Outcome, Refusal>
+/// `Line` for a line that is too long or that the version of the book does not have, and those of `event_of` and of
+/// [`TimedNode::take`]. The node is as before.
+fn react(
+    alloc: Global,
+    version: BookVersion,
+    node: &mut TimedNode,
+    line: &KeptLine,
+) -> Result<Outcome, Refusal>
     ensures reacts { (text : List ℕ) → IsKeptLine text line.now.bytes.items line.now.is_long
-        → MatchResult result (λ outcome. Reacts node.old text outcome.sends.items outcome.marks.items node.new)
-        (Stays node.old text node.new) }
+        → MatchResult result (λ outcome. Reacts version node.old text outcome.sends.items outcome.marks.items node.new)
+        (Stays version node.old text node.new) }
     ensures fits { IfOk result (λ outcome. FitAt node.new.clock outcome.sends.items) }
 {
     if line.is_long {
@@ -31,6 +37,7 @@ fn react(alloc: Global, node: &mut TimedNode, line: &KeptLine) -> Result<Outcome
     }
     // A match, since the prover makes no proof of a `?` on a result that holds a frame.
     match event_of(line.bytes.as_slice()) {
+        Ok(kind) if !version.allows(&kind) => Err(Refusal::Line),
         Ok(kind) => match node.take(alloc, &kind) {
             Ok(outcome) => Ok(outcome),
             Err(cause) => Err(Refusal::Event(cause)),
@@ -39,19 +46,20 @@ fn react(alloc: Global, node: &mut TimedNode, line: &KeptLine) -> Result<Outcome
     }
 }
 
-/// Hands a line to a node, and puts out the answer.
+/// Hands a line of a book of this version to a node, and puts out the answer.
 pub fn answer_line<W: Write>(
     alloc: Global,
+    version: BookVersion,
     node: &mut TimedNode,
     line: &KeptLine,
     writer: &mut W,
     out: &mut Output,
 )
     ensures { (read : List ℕ) → IsKeptLine read line.now.bytes.items line.now.is_long
-        → (text : List ℕ) × Answers node.old read text node.new
+        → (text : List ℕ) × Answers version node.old read text node.new
         × Puts (W.contents writer.old) (W.contents writer.new) out.old out.new text }
 {
-    match react(alloc, node, line) {
+    match react(alloc, version, node, line) {
         Ok(outcome) => put_outcome(writer, out, node.clock(), &outcome),
         Err(why) => put(writer, out, refused_line(why).as_bytes()),
     }

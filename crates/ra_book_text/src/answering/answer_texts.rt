@@ -37,7 +37,8 @@ fn put_number<W: Write, I: Integer>(writer: &mut W, out: &mut Output, number: I)
 fn put_frame<W: Write>(writer: &mut W, out: &mut Output, frame: &Frame)
     requires { Fits frame.now }
     ensures { (bytes : List ℕ) × IsWrittenText bytes frame.now
-        × Puts (W.contents writer.old) (W.contents writer.new) out.old out.new (send_line (to_of frame.now.message) bytes) }
+        × Puts (W.contents writer.old)
+        (W.contents writer.new) out.old out.new (send_line (to_of frame.now.message) bytes) }
 {
     let bytes = encoded(frame);
     let mut room = [0; 2 * MAX_FRAME];
@@ -77,7 +78,8 @@ fn put_mark<W: Write>(writer: &mut W, out: &mut Output, mark: &Mark)
 
 /// Puts out the lines of marks.
 fn put_marks<W: Write>(writer: &mut W, out: &mut Output, marks: &[Mark])
-    ensures puts { Puts (W.contents writer.old) (W.contents writer.new) out.old out.new (flat_map lines.mark_line marks.now) }
+    ensures puts { Puts (W.contents writer.old)
+        (W.contents writer.new) out.old out.new (flat_map lines.mark_line marks.now) }
     ensures shown { AreShown marks.now }
 {
     for mark in marks {

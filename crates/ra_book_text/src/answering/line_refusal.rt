@@ -7,7 +7,7 @@ use ra_frame::FrameError;
 /// Why a line of a book is refused, in the order in which the causes are looked for.
 #[derive(Clone, Copy)]
 pub enum Refusal {
-    /// It has none of the forms of lines, or more than 256 bytes.
+    /// It has none of the forms of lines in the version of its book, or more than 256 bytes.
     Line,
     /// The digits are an odd number, or not hexadecimal.
     Hex,
@@ -32,6 +32,7 @@ pub fn refused_line(why: Refusal) -> &'static str
             BookError::Busy => "refused Busy\n",
             BookError::Exhausted => "refused Exhausted\n",
             BookError::NotHeld => "refused NotHeld\n",
+            BookError::NotWaiting => "refused NotWaiting\n",
             BookError::WrongNode => "refused WrongNode\n",
             BookError::Stranger => "refused Stranger\n",
             BookError::ClockFull => "refused ClockFull\n",

@@ -9,9 +9,9 @@ use std::io::Write;
 /// The most bytes that wait.
 const MOST_WAITING: usize = 16_384;
 
-/// The text that waits to be written, and whether the writer failed. After that nothing is written any more, and what is
-/// put out is dropped: so the calls that put text out have no errors. Only this file asks the writer, and so only it says
-/// that the writer failed.
+/// The text that waits to be written, and whether the writer failed. After that nothing is written any more, and what
+/// is put out is dropped: so the calls that put text out have no errors. Only this file asks the writer, and so only it
+/// says that the writer failed.
 #[derive(Drop)]
 pub struct Output {
     waiting: ArrayVec<u8, MOST_WAITING>,
@@ -57,8 +57,8 @@ pub fn flush<W: Write>(writer: &mut W, out: &mut Output) -> bool
     out.failed
 }
 
-/// Does as [`flush`] if the reader is drained: it shows nothing more, so that to ask it may mean to wait. Returns whether the writer
-/// failed, now or before.
+/// Does as [`flush`] if the reader is drained: it shows nothing more, so that to ask it may mean to wait. Returns
+/// whether the writer failed, now or before.
 pub fn flush_if<W: Write>(is_drained: bool, writer: &mut W, out: &mut Output) -> bool
     ensures failed { result ≡ out.new.failed }
     ensures puts { Puts (W.contents writer.old) (W.contents writer.new) out.old out.new [] }

@@ -1,4 +1,5 @@
-//! What joins the answers of nodes and the settling of their books. The function does nothing, and its contract is the law.
+//! What joins the answers of nodes and the settling of their books. The function does nothing, and its contract is the
+//! law.
 ghost use Rattle.std.specs.Prelude.{◌≡◌, ◌∷◌, ◌++◌, ℕ, Bool, List, All, codes};
 ghost use Rattle.std.specs.List.{AllZip};
 ghost use Rattle.ra_book.specs.Book.{BookState};
@@ -13,8 +14,8 @@ use crate::laws::lines_are_read_in_one_way;
 use ra_book::{histories_are_determined, timed_nodes_have_histories};
 use ra_node::events_go_on;
 
-/// The lines that a node accepted are its book, as `settle_text` reads it. The frames that the node answered are those that the
-/// book sent, in order and each with its clock, and the marks that it answered are the book's.
+/// The lines that a node accepted are its book, as `settle_text` reads it. The frames that the node answered are those
+/// that the book sent, in order and each with its clock, and the marks that it answered are the book's.
 pub fn books_say_what_nodes_answered()
     // What `answer_book` answered to a book is what a node answers that its lines drive.
     ensures driven { (first : List ℕ) (lines : List (List ℕ)) (text : List ℕ) → AnswersBook (first ∷ lines) text
@@ -28,7 +29,8 @@ pub fn books_say_what_nodes_answered()
     ensures right { (driven : List Driven) (books : List BookState) → AllZip IsBookOf driven books → AreBeside books
         → AreRight (all_book_lines driven) books }
     // What is read of them is these books and no others.
-    ensures read { (driven : List Driven) (books : List BookState) → All IsDriven driven → AreRight (all_book_lines driven) books
+    ensures read { (driven : List Driven) (books : List BookState) → All IsDriven driven
+        → AreRight (all_book_lines driven) books
         → AllZip IsBookOf driven books }
     // If the text of them settles, it is these books that do.
     ensures settled { (repeats : Bool) (driven : List Driven) (input : List ℕ) (text : SettledText)

@@ -36,6 +36,16 @@ pub fn release_of(text: &[u8]) -> Option<BookKind>
     Some(BookKind::Gave { client, name })
 }
 
+/// Reads the fields of a cancel: client and name. It does not allocate.
+pub fn cancel_of(text: &[u8]) -> Option<BookKind>
+    ensures { result ≡ spec.cancel_of text.now }
+{
+    let (client, name) = split_once(text, b' ')?;
+    let client = client_of(client)?;
+    let name = name_of(name)?;
+    Some(BookKind::Cancelled { client, name })
+}
+
 /// Reads how many nodes there are, and the number with which each resource begins. It does not allocate.
 fn nodes_and_start_of(text: &[u8]) -> Option<(NodeId, u64)>
     ensures { result ≡ spec.nodes_and_start_of text.now }
@@ -46,7 +56,8 @@ fn nodes_and_start_of(text: &[u8]) -> Option<(NodeId, u64)>
     Some((nodes, start))
 }
 
-/// Reads the fields of a first line: the node, how many there are, and the number with which each resource begins. It does not allocate.
+/// Reads the fields of a first line: the node, how many there are, and the number with which each resource begins. It
+/// does not allocate.
 pub fn first_of(text: &[u8]) -> Option<(NodeId, (NodeId, u64))>
     ensures { result ≡ spec.first_of text.now }
 {

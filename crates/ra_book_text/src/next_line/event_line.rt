@@ -1,11 +1,11 @@
 //! A line of a book as the event that it is.
-ghost use Rattle.std.specs.Prelude.{◌≡◌, ◌≤◌, ◌++◌, ℕ, List, length, codes, IfOk, MatchResult};
-ghost use Rattle.ra_book_text.specs.BookText.{IsEvent, IsUnread};
+ghost use Rattle.std.specs.Prelude.{◌≡◌, ◌≤◌, ◌++◌, ℕ, List, length, codes, IfOk, MatchOption, MatchResult};
+ghost use Rattle.ra_book_text.specs.BookText.{IsEvent, IsNoLater, IsUnread};
 ghost use Rattle.ra_book.specs.Timed.{CanCome};
 ghost use Rattle.ra_book_text.specs.declared.answering.line_refusal.Refusal.{Refusal};
 
 use crate::Refusal;
-use crate::next_line::book_fields::{ask_of, release_of};
+use crate::next_line::book_fields::{ask_of, cancel_of, release_of};
 use ra_book::BookKind;
 use ra_frame::decode;
 use ra_trace::rest_after;
@@ -16,7 +16,8 @@ pub const MAX_LINE: usize = 256;
 /// The most bytes that the digits of a line stand for.
 const MAX_BYTES: usize = MAX_LINE / 2;
 
-/// Returns the event that digits are, after `receive `: the frame whose text they stand for comes. It does not allocate.
+/// Returns the event that digits are, after `receive `: the frame whose text they stand for comes. It does not
+/// allocate.
 ///
 /// # Errors
 ///
@@ -41,7 +42,23 @@ fn receive_line(digits: &[u8]) -> Result<BookKind, Refusal>
     }
 }
 
-/// Returns the event that a line is, without its line feed. It does not allocate, and the cost is linear in the line.
+/// Returns the event that a line is, if only books of version 2 have it: a client gives up, or the node forgets names.
+/// It does not allocate.
+fn later_event_of(line: &[u8]) -> Option<BookKind>
+    requires { length line.now ≤ 256 }
+    ensures { MatchOption result (IsNoLater line.now) (IsEvent line.now) }
+{
+    if let Some(rest) = rest_after(b"cancel ", line) {
+        return cancel_of(rest);
+    }
+    if line == b"forget".as_slice() {
+        return Some(BookKind::Forgot);
+    }
+    None
+}
+
+/// Returns the event that a line is, without its line feed, in a book of version 2. One of version 1 has the same
+/// events, without cancels and forgetting. It does not allocate, and the cost is linear in the line.
 ///
 /// # Errors
 ///
@@ -65,7 +82,7 @@ pub fn event_of(line: &[u8]) -> Result<BookKind, Refusal>
     } else if let Some(rest) = rest_after(b"release ", line) {
         release_of(rest)
     } else {
-        None
+        later_event_of(line)
     };
     match read {
         Some(kind) => Ok(kind),

@@ -47,8 +47,8 @@ fn keep_shown(shown: &[u8], line: &mut KeptLine) -> TakenBytes
     }
 }
 
-/// Takes one byte from a reader that shows none. By the contract of `BufRead`, a reader that shows nothing need not be at its
-/// end; one that gives nothing is.
+/// Takes one byte from a reader that shows none. By the contract of `BufRead`, a reader that shows nothing need not be
+/// at its end; one that gives nothing is.
 ///
 /// # Errors
 ///

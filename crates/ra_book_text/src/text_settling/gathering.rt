@@ -2,12 +2,13 @@
 ghost use Rattle.std.specs.Prelude.{◌↔◌, ℕ, List, All, IsTrue, MatchBool};
 ghost use Rattle.std.specs.List.{Any};
 ghost use Rattle.ra_book_text.specs.BookText.{IsFirst};
+ghost use Rattle.ra_book_text.specs.declared.next_line.book_version.BookVersion.{BookVersion};
 ghost use Rattle.ra_book_text.specs.Texts.{IsBeside};
 ghost use Rattle.ra_book_text.specs.Gathering.{TakesEvent, TakesFirst, TakesLine};
 
 use crate::text_settling::came_frames::{CameList, note};
 use crate::text_settling::recording::record_event;
-use crate::{FirstLine, Refusal, TextCause, event_of};
+use crate::{BookVersion, FirstLine, Refusal, TextCause, event_of};
 use ra_book::{Book, BookError};
 use std::alloc::Global;
 use std::mem::replace;
@@ -15,10 +16,13 @@ use std::mem::replace;
 /// The books that were read so far, in the order of the text, and what came to their nodes.
 #[derive(Drop)]
 pub struct Gathered {
-    /// Those before the last one. There is room for the last one after them, so that no room is wanted once all lines are read.
+    /// Those before the last one. There is room for the last one after them, so that no room is wanted once all lines
+    /// are read.
     pub earlier: Vec<Book>,
     /// The one whose lines are read.
     pub last: Book,
+    /// The version in which they are read.
+    pub version: BookVersion,
     pub came: CameList,
 }
 
@@ -31,8 +35,8 @@ pub enum LineFault {
     Memory,
 }
 
-/// Returns whether a book is of another node than this first line, of as many nodes and from the same start. It does not
-/// allocate.
+/// Returns whether a book is of another node than this first line, of as many nodes and from the same start. It does
+/// not allocate.
 fn is_beside(book: &Book, first: &FirstLine) -> bool
     ensures { IsTrue result ↔ IsBeside first.now.member.node first.now.member.nodes first.now.start book.now }
 {
@@ -59,9 +63,11 @@ impl Gathered {
     ///
     /// # Errors
     ///
-    /// `Wrong` with `Books`: its node has a book already, or the number of nodes or the start is another one. Otherwise `Memory`.
+    /// `Wrong` with `Books`: its node has a book already, or the number of nodes or the start is another one. Otherwise
+    /// `Memory`.
     fn open(&mut self, alloc: Global, first: &FirstLine) -> Result<(), LineFault>
-        ensures { (line : List ℕ) → IsFirst line first.now.member.node first.now.member.nodes first.now.start
+        ensures { (line : List ℕ)
+            → IsFirst line first.now.version first.now.member.node first.now.member.nodes first.now.start
             → TakesFirst self.old line self.new result }
     {
         if !is_beside(&self.last, first) {
@@ -77,6 +83,7 @@ impl Gathered {
         let book = Book::of(alloc, first.member, first.start);
         let earlier = replace(&mut self.last, book);
         self.earlier.push_reserved(earlier);
+        self.version = first.version;
         Ok(())
     }
 
@@ -84,13 +91,16 @@ impl Gathered {
     ///
     /// # Errors
     ///
-    /// `Wrong` with `Line`: it has none of the forms of lines. `Wrong` with `Refused`: its digits are no frame, or the node of
-    /// the last book does not take the event. Otherwise `Memory`.
+    /// `Wrong` with `Line`: it has none of the forms of lines in the version of its book. `Wrong` with `Refused`: its
+    /// digits are no frame, or the node of the last book does not take the event. Otherwise `Memory`.
     fn take_event(&mut self, alloc: Global, number: u64, line: &[u8]) -> Result<(), LineFault>
-        ensures { ((node nodes start : ℕ) → IsFirst line.now node nodes start → ⊥)
+        ensures { ((version : BookVersion) (node nodes start : ℕ) → IsFirst line.now version node nodes start → ⊥)
             → TakesEvent self.old number line.now self.new result }
     {
         let kind = match event_of(line) {
+            Ok(kind) if !self.version.allows(&kind) => return Err(LineFault::Wrong(
+                TextCause::Line,
+            )),
             Ok(kind) => kind,
             Err(Refusal::Line) => return Err(LineFault::Wrong(TextCause::Line)),
             Err(_) => return Err(LineFault::Wrong(TextCause::Refused)),
@@ -105,8 +115,8 @@ impl Gathered {
         }
     }
 
-    /// Takes the line of this number, which comes after those so far. The cost is that of the event at its node, and at a first
-    /// line linear in the number of books.
+    /// Takes the line of this number, which comes after those so far. The cost is that of the event at its node, and at
+    /// a first line linear in the number of books.
     ///
     /// # Errors
     ///

@@ -59,8 +59,8 @@ fn read_lines(alloc: Global, gathered: &mut Gathered, text: &[u8]) -> Result<u64
     Ok(text.len() as u64 + 2)
 }
 
-/// Reads a text of books. Returns what was gathered, and the number that the line after the last one would have. A last line
-/// without a line feed is passed over. The cost is that of the events at their nodes, and linear in the text.
+/// Reads a text of books. Returns what was gathered, and the number that the line after the last one would have. A last
+/// line without a line feed is passed over. The cost is that of the events at their nodes, and linear in the text.
 ///
 /// # Errors
 ///
@@ -84,6 +84,7 @@ pub fn read_books(alloc: Global, text: &[u8]) -> Result<(Gathered, u64), SettleT
     let mut gathered = Gathered {
         earlier,
         last,
+        version: first.version,
         came: CameList::new(alloc),
     };
     let next = read_lines(alloc, &mut gathered, rest)?;

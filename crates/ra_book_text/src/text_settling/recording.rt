@@ -24,6 +24,14 @@ pub fn record_event(alloc: Global, book: &mut Book, kind: &BookKind) -> Result<(
             book.leave(alloc, *client, *name)?;
             Ok(())
         }
+        BookKind::Cancelled { client, name } => {
+            book.cancel(alloc, *client, *name)?;
+            Ok(())
+        }
+        BookKind::Forgot => {
+            book.forget(alloc)?;
+            Ok(())
+        }
         BookKind::Got(frame) => {
             // For the proof: the bytes of a frame are read as this frame.
             round_trip();

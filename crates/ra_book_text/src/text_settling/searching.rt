@@ -9,11 +9,12 @@ use ra_book::{Book, was_sent};
 use ra_stamp::{Memory, Message, Messages};
 use std::alloc::Global;
 
-/// Returns the number of the first line by which a frame comes that was not sent, or that is flagged lost, or `None`. The cost of
-/// each frame is logarithmic.
+/// Returns the number of the first line by which a frame comes that was not sent, or that is flagged lost, or `None`.
+/// The cost of each frame is logarithmic.
 pub fn first_unsent(books: &[Book], came: &[Came]) -> Option<u64>
     requires { IsCluster books.now }
-    ensures { MatchOption result (All (λ one. WasSent books.now one.frame) came.now) (IsFirstUnsent books.now came.now) }
+    ensures { MatchOption result (All (λ one. WasSent books.now one.frame) came.now)
+        (IsFirstUnsent books.now came.now) }
 {
     for one in came {
         if !was_sent(books, &one.frame) {
@@ -35,7 +36,8 @@ fn put(alloc: Global, bag: &mut Bag, message: Message) -> Result<(), Memory>
 /// Looks for a message that came again, with a bag that is empty so far, and puts all before it into the bag.
 fn again_among(alloc: Global, bag: &mut Bag, came: &[Came]) -> Result<Option<u64>, Memory>
     requires { bag.old.items ≡ [] }
-    ensures { IfOk result (λ found. MatchOption found (AllPairs (λ a b. a ≢ b) (messages_of came.now)) (IsFirstAgain came.now)) }
+    ensures { IfOk result
+        (λ found. MatchOption found (AllPairs (λ a b. a ≢ b) (messages_of came.now)) (IsFirstAgain came.now)) }
 {
     for one in came {
         if bag.find(&one.frame.message, 0).is_some() {
@@ -46,14 +48,15 @@ fn again_among(alloc: Global, bag: &mut Bag, came: &[Came]) -> Result<Option<u64
     Ok(None)
 }
 
-/// Returns the number of the first line by which a message comes again, or `None`. The cost of each frame is constant on average.
-/// If there is no memory to know where each message is in the bag, all before it are looked through.
+/// Returns the number of the first line by which a message comes again, or `None`. The cost of each frame is constant
+/// on average. If there is no memory to know where each message is in the bag, all before it are looked through.
 ///
 /// # Errors
 ///
 /// `Memory`: memory ran out.
 pub fn first_again(alloc: Global, came: &[Came]) -> Result<Option<u64>, Memory>
-    ensures { IfOk result (λ found. MatchOption found (AllPairs (λ a b. a ≢ b) (messages_of came.now)) (IsFirstAgain came.now)) }
+    ensures { IfOk result
+        (λ found. MatchOption found (AllPairs (λ a b. a ≢ b) (messages_of came.now)) (IsFirstAgain came.now)) }
 {
     // The bag is lent, so that it is dropped at one exit.
     let mut bag = Bag::new(alloc)?;

@@ -7,11 +7,11 @@ use thiserror::Error;
 /// Why a text of books does not settle, in the order in which the causes are looked for.
 #[derive(Clone, Copy, Debug, PartialEq, Eq)]
 pub enum TextCause {
-    /// The line has none of the forms of lines, or more than 256 bytes; or the text does not begin with the first line of a
-    /// book.
+    /// The line has none of the forms of lines, or more than 256 bytes; or the text does not begin with the first line
+    /// of a book.
     Line,
-    /// The line is the first one of a book of a node that has a book already, or of another number of nodes or another start
-    /// than those before it. At the end of the text: the book of a node is missing.
+    /// The line is the first one of a book of a node that has a book already, or of another number of nodes or another
+    /// start than those before it. At the end of the text: the book of a node is missing.
     Books,
     /// The digits are no frame, or the node does not take the event.
     Refused,

@@ -176,10 +176,10 @@ fn answer_to(alloc: Global, me: Member, input: &[u8]) -> Result<Vec<u8>, AnswerE
     }
 }
 
-/// Reads one line, a frame of version 1 or 2 in hexadecimal digits, and writes the frames that an idle node sends when it
-/// receives that frame, in version 2, in lower case, a line each. The node is number `node` of `nodes`, it has met no
-/// number before, and its clock was 0. It takes at most two bytes more than [`MAX_LINE`] from the reader, and no read or
-/// write that failed is tried again.
+/// Reads one line, a frame of version 1 or 2 in hexadecimal digits, and writes the frames that an idle node sends when
+/// it receives that frame, in version 2, in lower case, a line each. The node is number `node` of `nodes`, it has met
+/// no number before, and its clock was 0. It takes at most two bytes more than [`MAX_LINE`] from the reader, and no
+/// read or write that failed is tried again.
 ///
 /// # Errors
 ///

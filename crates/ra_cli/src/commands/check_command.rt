@@ -9,14 +9,17 @@ use crate::commands::verdict_lines::verdict_text;
 use crate::output::{CommandOutcome, DONE, UNFINISHED, print_text, refuse};
 use crate::refusal_lines::CommandRefusal;
 use crate::remark::Remark;
-use ra_stamp::Mark;
-use ra_trace::{MarksVerdict, TraceError, Verdict, check_buffered_with_due, check_marks_buffered};
+use ra_trace::{
+    Line, MarksVerdict, TraceError, Verdict, check_buffered_with_due, check_marks_buffered,
+};
 use std::alloc::Global;
 use std::io::{BufRead, Write};
 
-/// Returns the outcome of a verdict that is printed. If it is that a line is wrong for its marks, `due` is the mark that is due.
-fn outcome_of(verdict: &Verdict, due: Option<Mark>) -> CommandOutcome
-    ensures { ((result.status ≡ 0) × (is_valid verdict.now ≡ true)) ⊎ ((result.status ≡ 3) × (is_valid verdict.now ≡ false)) }
+/// Returns the outcome of a verdict that is printed. If it is that a line is wrong for its sends or its marks, `due` is
+/// the line that is due.
+fn outcome_of(verdict: &Verdict, due: Option<Line>) -> CommandOutcome
+    ensures { ((result.status ≡ 0) × (is_valid verdict.now ≡ true))
+        ⊎ ((result.status ≡ 3) × (is_valid verdict.now ≡ false)) }
 {
     match *verdict {
         Verdict::Valid { messages, .. } => CommandOutcome {
@@ -32,7 +35,8 @@ fn outcome_of(verdict: &Verdict, due: Option<Mark>) -> CommandOutcome
 
 /// Returns the outcome of a verdict on a mark log that is printed.
 fn marks_outcome_of(verdict: &MarksVerdict) -> CommandOutcome
-    ensures { ((result.status ≡ 0) × (is_run verdict.now ≡ true)) ⊎ ((result.status ≡ 3) × (is_run verdict.now ≡ false)) }
+    ensures { ((result.status ≡ 0) × (is_run verdict.now ≡ true))
+        ⊎ ((result.status ≡ 3) × (is_run verdict.now ≡ false)) }
 {
     match *verdict {
         MarksVerdict::Valid { .. } => CommandOutcome {

@@ -54,7 +54,8 @@ fn recorded_text(
     nodes: u16,
     recorded: &Recorded,
 ) -> Result<String, Memory>
-    ensures { IfOk result (λ text. (moves : List Move) → map (λ move. move.step) moves ≡ recorded.now.settled.steps.items
+    ensures { IfOk result
+        (λ text. (moves : List Move) → map (λ move. move.step) moves ≡ recorded.now.settled.steps.items
         → IsRun nodes 0 moves
         → SaysRun printed nodes recorded.now.books.items moves recorded.now.settled.report (string_bytes text)) }
 {
@@ -67,8 +68,8 @@ fn recorded_text(
     }
 }
 
-/// Runs a script by threads, and returns what is printed of the one run into which the books of the nodes settle. It waits for
-/// the threads that it starts, and nothing bounds how long.
+/// Runs a script by threads, and returns what is printed of the one run into which the books of the nodes settle. It
+/// waits for the threads that it starts, and nothing bounds how long.
 ///
 /// # Errors
 ///
@@ -87,9 +88,9 @@ fn text_of_run<T: Threads + Wait + Sync>(
     recorded_text(alloc, printed, script.nodes(), &recorded).or(Err(RunScriptError::Memory))
 }
 
-/// Reads the text of a script, runs it by threads, and returns what is printed of the one run into which the books of the nodes
-/// settle: the lines of its report, its trace, or these books. It takes at most 65,537 bytes from the reader, and no read that
-/// failed is tried again. It waits for the threads that it starts, and nothing bounds how long.
+/// Reads the text of a script, runs it by threads, and returns what is printed of the one run into which the books of
+/// the nodes settle: the lines of its report, its trace, or these books. It takes at most 65,537 bytes from the reader,
+/// and no read that failed is tried again. It waits for the threads that it starts, and nothing bounds how long.
 ///
 /// # Errors
 ///
@@ -107,17 +108,19 @@ pub fn run_script<T: Threads + Wait + Sync, R: Read>(
 ) -> Result<String, RunScriptError>
     // What is read is a script to its end, and the text shows its run.
     ensures ok { IfOk result (λ text. IfSome (R.remaining reader.old) (λ input.
-        IsClusterRun printed input (string_bytes text) × Consumes (R.remaining reader.old) (R.remaining reader.new) input)) }
+        IsClusterRun printed input (string_bytes text)
+        × Consumes (R.remaining reader.old) (R.remaining reader.new) input)) }
     // If the reader tells nothing of its input, this still holds of some input.
     ensures read { IfOk result (λ text. (input : List ℕ) × IsClusterRun printed input (string_bytes text)) }
-    ensures reads { ReadsInput RunScriptError.Read 65537 RefusesRun (R.remaining reader.old) (R.remaining reader.new) result }
+    ensures reads { ReadsInput RunScriptError.Read 65537 RefusesRun (R.remaining reader.old)
+        (R.remaining reader.new) result }
 {
     let script = script_from(alloc, reader)?;
     text_of_run(rt, alloc, printed, &script)
 }
 
-/// Does the command `cluster`: runs the script of the reader by threads, and prints what is asked of the run. It waits for the
-/// threads that it starts.
+/// Does the command `cluster`: runs the script of the reader by threads, and prints what is asked of the run. It waits
+/// for the threads that it starts.
 pub fn run_by_threads<T: Threads + Wait + Sync, R: Read, W: Write>(
     rt: &T,
     alloc: Global,

@@ -95,12 +95,13 @@ fn draw_log<R: Read, W: Write>(
     }
 }
 
-/// Draws a part of the reader's input, or says why it is not of this kind, for which nothing is written. In both cases the
-/// whole input is left in `text`.
+/// Draws a part of the reader's input, or says why it is not of this kind, for which nothing is written. In both cases
+/// the whole input is left in `text`.
 ///
 /// # Errors
 ///
-/// Those of `draw`, in their order. `Memory` may also come for the line of a denial. After each but `Write` the writer is as before.
+/// Those of `draw`, in their order. `Memory` may also come for the line of a denial. After each but `Write` the writer
+/// is as before.
 pub fn draw_input<R: Read, W: Write>(
     alloc: Global,
     kind: InputKind,

@@ -22,8 +22,8 @@ fn mark_cause_word(cause: MarkCause) -> &'static str
     }
 }
 
-/// Returns the lines of a verdict on a mark log: that its marks are a run of the lock table, and how many requests and grants there
-/// are, or its first wrong line and why.
+/// Returns the lines of a verdict on a mark log: that its marks are a run of the lock table, and how many requests and
+/// grants there are, or its first wrong line and why.
 ///
 /// # Errors
 ///

@@ -23,7 +23,8 @@ pub fn script_from<R: Read>(alloc: Global, reader: &mut R) -> Result<Script, Run
         (script_of input ≡ Ok script) × Consumes (R.remaining reader.old) (R.remaining reader.new) input)) }
     // If the reader tells nothing of its input, this still holds of some input.
     ensures read { IfOk result (λ script. (input : List ℕ) × (script_of input ≡ Ok script)) }
-    ensures reads { ReadsInput RunScriptError.Read 65537 RefusesRun (R.remaining reader.old) (R.remaining reader.new) result }
+    ensures reads { ReadsInput RunScriptError.Read 65537 RefusesRun (R.remaining reader.old)
+        (R.remaining reader.new) result }
     ensures unrun { IfErr result (λ fault. (why : ClusterError) → fault ≢ RunScriptError.Cluster why) }
 {
     let text = read_up_to(alloc, reader, MAX_SCRIPT + 1)?;

@@ -29,7 +29,8 @@ fn all_finished(survey: &Survey) -> bool
     survey.stuck.is_none() && survey.limit.is_none()
 }
 
-/// Drives a cluster through a script under each seed, and returns the lines of the survey, and whether each run is finished.
+/// Drives a cluster through a script under each seed, and returns the lines of the survey, and whether each run is
+/// finished.
 ///
 /// # Errors
 ///
@@ -58,8 +59,9 @@ fn counted_of<O: Observer>(
     })
 }
 
-/// Returns what is to be printed of the run by the first seed by which a script comes to the end that is looked for, and whether
-/// that run is finished. If there is no such run, returns a line that says so, and whether that is as it should be.
+/// Returns what is to be printed of the run by the first seed by which a script comes to the end that is looked for,
+/// and whether that run is finished. If there is no such run, returns a line that says so, and whether that is as it
+/// should be.
 ///
 /// # Errors
 ///
@@ -130,12 +132,12 @@ fn told_of<O: Observer>(
     found_of(alloc, script, asked, search, observer)
 }
 
-/// Reads the text of a script, and drives a cluster through it by chance, with faults or without, under each seed from the first
-/// to the last, both of them included, each in at most 16,777,216 turns. Returns the lines of the survey, and whether each
-/// run is finished. If an end is looked for, it goes up to the first seed whose run comes to it, and returns that run's trace or
-/// choices, and whether it is finished. If there is no such run, it returns the line `none`, and whether it is runs that are stuck
-/// that were looked for. The observer learns of each seed. It takes at most 65,537 bytes from the reader, and no read that failed
-/// is tried again.
+/// Reads the text of a script, and drives a cluster through it by chance, with faults or without, under each seed from
+/// the first to the last, both of them included, each in at most 16,777,216 turns. Returns the lines of the survey, and
+/// whether each run is finished. If an end is looked for, it goes up to the first seed whose run comes to it, and
+/// returns that run's trace or choices, and whether it is finished. If there is no such run, it returns the line
+/// `none`, and whether it is runs that are stuck that were looked for. The observer learns of each seed. It takes at
+/// most 65,537 bytes from the reader, and no read that failed is tried again.
 ///
 /// # Errors
 ///
@@ -152,9 +154,11 @@ pub fn survey_script<R: Read, O: Observer>(
     observer: &mut O,
 ) -> Result<Printed, RunScriptError>
     ensures ok { IfOk result (λ told. IfSome (R.remaining reader.old) (λ input.
-        IsTold asked.now input (string_bytes told.text) told.finished × Consumes (R.remaining reader.old) (R.remaining reader.new) input)) }
+        IsTold asked.now input (string_bytes told.text) told.finished
+        × Consumes (R.remaining reader.old) (R.remaining reader.new) input)) }
     // If the reader tells nothing of its input, this still holds of some input.
-    ensures read { IfOk result (λ told. (input : List ℕ) × IsTold asked.now input (string_bytes told.text) told.finished) }
+    ensures read { IfOk result
+        (λ told. (input : List ℕ) × IsTold asked.now input (string_bytes told.text) told.finished) }
     ensures reads { ReadsInput RunScriptError.Read 65537 (RefusesSurvey asked.now)
         (R.remaining reader.old) (R.remaining reader.new) result }
 {
@@ -163,8 +167,8 @@ pub fn survey_script<R: Read, O: Observer>(
     Ok(told)
 }
 
-/// Returns the outcome of a survey, with status 3 if it is not finished. The remark then says that a run is stuck, if that was
-/// looked for, that no run is finished, if that was, and otherwise that some run is not.
+/// Returns the outcome of a survey, with status 3 if it is not finished. The remark then says that a run is stuck, if
+/// that was looked for, that no run is finished, if that was, and otherwise that some run is not.
 fn survey_outcome(finished: bool, find: Option<Search>) -> CommandOutcome
     ensures { ((result.status ≡ 0) × (finished ≡ true)) ⊎ ((result.status ≡ 3) × (finished ≡ false)) }
 {
@@ -187,8 +191,8 @@ fn survey_outcome(finished: bool, find: Option<Search>) -> CommandOutcome
     }
 }
 
-/// Drives a cluster through the script of the reader under each of many seeds, and prints the lines of the survey, or what is
-/// asked of the first run that comes to the end that is looked for.
+/// Drives a cluster through the script of the reader under each of many seeds, and prints the lines of the survey, or
+/// what is asked of the first run that comes to the end that is looked for.
 pub fn survey_seeds<R: Read, W: Write, O: Observer>(
     alloc: Global,
     asked: &SurveyTask,

@@ -38,8 +38,9 @@ fn push_spread(text: &mut Draft, word: &str, spread: Option<Spread>)
     }
 }
 
-/// Returns the lines of a survey. There is one for each end that came, with how many seeds came to it and the first of them. Then
-/// there is one for each of two figures, the turns that were made and the messages that were sent, with its least and its most.
+/// Returns the lines of a survey. There is one for each end that came, with how many seeds came to it and the first of
+/// them. Then there is one for each of two figures, the turns that were made and the messages that were sent, with its
+/// least and its most.
 ///
 /// # Errors
 ///

@@ -16,6 +16,7 @@ fn cause_word(cause: Cause) -> &'static str
         Cause::Line => "Line",
         Cause::Refused => "Refused",
         Cause::NotUnderWay => "NotUnderWay",
+        Cause::Sends => "Sends",
         Cause::Marks => "Marks",
         Cause::Table => "Table",
     }
@@ -57,8 +58,8 @@ pub fn invalid_text(alloc: Global, line: u64, word: &str) -> Result<String, Memo
     text.finish()
 }
 
-/// Returns the lines of a verdict: that the text is a trace, and how many requests and messages there are, or that it is not one,
-/// and its first wrong line and why.
+/// Returns the lines of a verdict: that the text is a trace, and how many requests and messages there are, or that it
+/// is not one, and its first wrong line and why.
 ///
 /// # Errors
 ///

@@ -81,8 +81,10 @@ pub fn name_cut_of(timeline: &Timeline) -> NameCut {
         common.take(&path.message.name());
     }
     for row in &timeline.rows {
-        if let Some(act) = &row.act {
-            common.take(&act.key.name);
+        if let Some(act) = &row.act
+            && let Some(key) = act.key()
+        {
+            common.take(&key.name);
         }
     }
     let longest = common.longest;

@@ -3,11 +3,11 @@
 use crate::layout::sizes::{
     BAND_HEIGHT, BAND_ROWS, CLIENTS_Y, COLUMN_WIDTH, LANES_TOP, NODES_Y, ROW_NUMBERS_X,
 };
-use crate::layout::{Layout, NodeLane};
+use crate::layout::{Layout, NameCut, NodeLane, Point};
+use crate::svg::act_look::ActLook;
 use crate::svg::svg_writer::PatternValue::{Node, Number, Short, Text, Whole};
 use crate::svg::svg_writer::SvgWriter;
-use crate::svg::wording::MODE_TEXTS;
-use crate::timeline::{ClientAct, Timeline};
+use crate::timeline::{Act, Timeline};
 use ra_stamp::NodeId;
 
 /// The two layers of a picture: the shapes, and the labels, which are in front of them all.
@@ -70,50 +70,92 @@ impl Layers {
         }
     }
 
-    /// Draws a dot where a client asks for a name in a mode or leaves it, and labels it.
-    fn draw_act(&mut self, layout: &Layout, act: &ClientAct, row: u32) {
+    /// Draws a dot where a client asks for a name in a mode, leaves it or gives it up, and labels it. The last one is
+    /// crossed.
+    fn draw_client_act(&mut self, place: Point, act: &ActLook, cut: NameCut) {
         let key = &act.key;
-        let place = layout.at(key.node, row);
-        let (what, class, mode, space, word) = match act.mode {
-            Some(mode) => (
-                "asks for",
-                "ask",
-                MODE_TEXTS[mode as usize],
-                " ",
-                mode.word(),
-            ),
-            None => ("leaves", "leave", "", "", ""),
-        };
         // First comes a larger dot that is not seen, so that a pointer hits it easily.
         self.shapes.write(
-            "<g><title>client $ at node $ $ $$</title><circle cx=\"$\" cy=\"$\" r=\"10\" class=\"touch\"/><circle cx=\"$\" cy=\"$\" r=\"4\" class=\"$\"/></g>\n",
+            "<g><title>client $ at node $ $ $$</title><circle cx=\"$\" cy=\"$\" r=\"10\" class=\"touch\"/><circle cx=\"$\" cy=\"$\" r=\"4\" class=\"$\"/>",
             &[
                 Number(u64::from(key.client)),
                 Node(key.node),
-                Text(what),
+                Text(act.what),
                 Whole(&key.name),
-                Text(mode),
+                Text(act.mode_text),
                 Number(place.x),
                 Number(place.y),
                 Number(place.x),
                 Number(place.y),
-                Text(class),
+                Text(act.class),
             ],
         );
+        if act.is_crossed {
+            self.draw_cross(place);
+        }
+        self.shapes.put(b"</g>\n");
         self.labels.write(
-            "<text x=\"$\" y=\"$\" class=\"label to-right\">$s $$$</text>\n",
+            "<text x=\"$\" y=\"$\" class=\"label to-right\">$ $$$</text>\n",
             &[
                 Number(place.x.saturating_add(8)),
                 Number(place.y.saturating_sub(4)),
-                Text(class),
-                Short(&key.name, layout.cut),
-                Text(space),
-                Text(word),
+                Text(act.verb),
+                Short(&key.name, cut),
+                Text(act.space),
+                Text(act.word),
             ],
         );
     }
 
-    /// Draws what a client does on each row, and says where the rows of messages under way at the end begin.
+    /// Draws a cross at a point.
+    pub fn draw_cross(&mut self, at: Point) {
+        self.shapes.write(
+            "<path class=\"cross\" d=\"M$ $m-5 -5l10 10m0 -10l-10 10\"/>",
+            &[Number(at.x), Number(at.y)],
+        );
+    }
+
+    /// Draws a short dash where a node forgets names, and labels it.
+    fn draw_forgetting(&mut self, node: NodeId, place: Point) {
+        self.shapes.write(
+            "<g><title>node $ forgets names</title><circle cx=\"$\" cy=\"$\" r=\"10\" class=\"touch\"/><path class=\"cross\" d=\"M$ $m-6 0h12\"/></g>\n",
+            &[
+                Node(node),
+                Number(place.x),
+                Number(place.y),
+                Number(place.x),
+                Number(place.y),
+            ],
+        );
+        self.labels.write(
+            "<text x=\"$\" y=\"$\" class=\"label to-right\">forgets</text>\n",
+            &[
+                Number(place.x.saturating_add(8)),
+                Number(place.y.saturating_sub(4)),
+            ],
+        );
+    }
+
+    /// Draws what a client or a node does on a row.
+    fn draw_act(&mut self, layout: &Layout, act: &Act, row: u32) {
+        match act {
+            Act::Forget(node) => self.draw_forgetting(*node, layout.at(*node, row)),
+            Act::Ask(key, mode) => {
+                let look = ActLook::of_ask(key, *mode);
+                self.draw_client_act(layout.at(key.node, row), &look, layout.cut);
+            }
+            Act::Leave(key) => {
+                let look = ActLook::of_leave(key);
+                self.draw_client_act(layout.at(key.node, row), &look, layout.cut);
+            }
+            Act::Cancel(key) => {
+                let look = ActLook::of_cancel(key);
+                self.draw_client_act(layout.at(key.node, row), &look, layout.cut);
+            }
+        }
+    }
+
+    /// Draws what a client or a node does on each row, and says where the rows of messages under way at the end begin.
     fn draw_rows(&mut self, layout: &Layout, timeline: &Timeline) {
         let mut number = 0;
         for row in &timeline.rows {

@@ -1,6 +1,6 @@
 //! The bars of clients beside the lanes, and their names.
 use crate::layout::sizes::{COLUMN_WIDTH, WIDE_LETTER};
-use crate::layout::{Layout, LockBar};
+use crate::layout::{Layout, LockBar, Point};
 use crate::svg::layers::Layers;
 use crate::svg::svg_writer::PatternValue::{Node, Number, Short, Text, Whole};
 use crate::svg::wording::MODE_TEXTS;
@@ -60,9 +60,10 @@ impl Layers {
         first: Option<Moment>,
         last: Option<Moment>,
     ) {
-        let (end, said, line) = match last {
-            Some(last) => (last.row, " to line $</title>", last.line),
-            None => (bar.end, " on</title>", 0),
+        let (end, said, line) = match (last, bar.span.ended) {
+            (Some(last), _) => (last.row, " to line $</title>", last.line),
+            (None, Some(ended)) => (ended.row, " to line $, and gives up</title>", ended.line),
+            (None, None) => (bar.end, " on</title>", 0),
         };
         if let Some(first) = first
             && first.row < end
@@ -118,13 +119,33 @@ impl Layers {
         }
     }
 
+    /// Draws a cross at the end of the bar of a request that is withdrawn, if it has a row.
+    fn draw_withdrawal(&mut self, layout: &Layout, bar: &LockBar) {
+        let span = &bar.span;
+        if let Some(ended) = span.ended
+            && span.requested.is_some()
+            && span.entered.is_none()
+            && ended.row > 0
+        {
+            let x = layout.column_x(span.key.node, bar.column);
+            self.begin_phase(&span.key, "gives up");
+            self.shapes.put(b"</title>");
+            self.draw_cross(Point {
+                x: x.saturating_add(COLUMN_WIDTH / 2),
+                y: layout.y(ended.row),
+            });
+            self.shapes.put(b"</g>\n");
+        }
+    }
+
     /// Draws the bar of a lock, phase by phase, and names it.
     pub fn draw_lock_bar(&mut self, layout: &Layout, bar: &LockBar) {
         let span = &bar.span;
         let (asked, requested, entered) = (Some(span.asked), span.requested, span.entered);
         self.draw_phase(layout, bar, QUEUED, asked, requested);
         self.draw_phase(layout, bar, WAITING, requested, entered);
-        self.draw_phase(layout, bar, INSIDE, entered, span.left);
+        self.draw_phase(layout, bar, INSIDE, entered, span.ended);
+        self.draw_withdrawal(layout, bar);
         self.name_lock_bar(layout, bar);
     }
 }

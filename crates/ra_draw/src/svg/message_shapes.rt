@@ -150,10 +150,7 @@ impl Layers {
             ],
         );
         if let MessageEnd::Lost(_) = path.end {
-            self.shapes.write(
-                "<path class=\"cross\" d=\"M$ $m-5 -5l10 10m0 -10l-10 10\"/>",
-                &[Number(x), Number(to.y)],
-            );
+            self.draw_cross(Point { x, y: to.y });
         }
         self.shapes.put(b"</g>\n");
     }

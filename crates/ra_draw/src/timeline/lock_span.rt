@@ -11,8 +11,8 @@ pub struct LockKey {
     pub name: Name,
 }
 
-/// A client asks for a name, gets a number for its request, is granted the name and gives it back, as far as the run
-/// goes.
+/// A client asks for a name, gets a number for its request, is granted the name and gives it back, or gives up before,
+/// as far as the run goes.
 #[derive(Clone, Copy)]
 pub struct LockSpan {
     pub key: LockKey,
@@ -21,7 +21,8 @@ pub struct LockSpan {
     /// When its request got a number: until then the client is queued.
     pub requested: Option<Moment>,
     pub entered: Option<Moment>,
-    pub left: Option<Moment>,
+    /// When it gave the name back, or gave up.
+    pub ended: Option<Moment>,
 }
 
 /// All lock spans, in the order in which they were asked for, and the places of those that are not over.
@@ -44,7 +45,7 @@ impl LockSpans {
             asked,
             requested: None,
             entered: None,
-            left: None,
+            ended: None,
         };
         match self.all.push(span) {
             Ok(()) => Ok(()),
@@ -52,8 +53,17 @@ impl LockSpans {
         }
     }
 
-    /// Notes what becomes of a client that asked: its request gets a number, it is granted the name, or it gives the
-    /// name back.
+    /// Notes that a client gives a name back, or gives up.
+    pub fn end(&mut self, key: &LockKey, ended: Moment) {
+        if let Some(place) = self.open.swap_remove(&(key.node, key.client, key.name)) {
+            if let Some(span) = self.all.get_mut(place) {
+                span.ended = Some(ended);
+            }
+        }
+    }
+
+    /// Notes what becomes of a client that asked: its request gets a number, or it is granted the name. What else marks
+    /// say is noted as their steps come.
     pub fn take(&mut self, mark: &Mark, now: Moment) {
         let entry = mark.entry();
         let key = (entry.stamp.node, entry.client, entry.name);
@@ -66,10 +76,7 @@ impl LockSpans {
         match mark {
             Mark::Requested(_) => span.requested = Some(now),
             Mark::Entered(_) => span.entered = Some(now),
-            Mark::Left(_) => {
-                span.left = Some(now);
-                self.open.swap_remove(&key);
-            }
+            Mark::Left(_) | Mark::Withdrawn(_) => {}
         }
     }
 }

@@ -1,7 +1,8 @@
 //! The bytes of a frame, each as two hexadecimal digits.
 use ra_stamp::Name;
 
-/// Returns the digits of the bytes of a frame from this place on, counted from 0, as many as there are of this many bytes.
+/// Returns the digits of the bytes of a frame from this place on, counted from 0, as many as there are of this many
+/// bytes.
 pub fn part(digits: &[u8], place: usize, width: usize) -> &[u8] {
     let start = place.saturating_mul(2);
     let end = place

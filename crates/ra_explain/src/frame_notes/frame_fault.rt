@@ -22,8 +22,8 @@ pub fn push_offsets(note: &mut Note, field: &FrameField) {
     push_number_in(note, joint, last, " ");
 }
 
-/// Adds the description of a frame's fault: which field of these hexadecimal digits it is, where its bytes are, what they are, and
-/// what is allowed there.
+/// Adds the description of a frame's fault: which field of these hexadecimal digits it is, where its bytes are, what
+/// they are, and what is allowed there.
 pub fn push_frame_fault(note: &mut Note, digits: &[u8], fault: FrameError) {
     let index = FAULTY[fault as usize];
     let mut field = field_at(digits, index);

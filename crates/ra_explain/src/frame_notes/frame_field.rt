@@ -17,7 +17,8 @@ pub const NAME: usize = 8;
 /// The index of a byte of the name.
 pub const NAME_BYTE: usize = 9;
 
-/// The index of the field that each fault is in, in the order of `FrameError`. It is the name if no field before it has the fault.
+/// The index of the field that each fault is in, in the order of `FrameError`. It is the name if no field before it has
+/// the fault.
 pub const FAULTY: [usize; 12] = [
     NAME, 0, 1, SENDER, RECEIVER, RECEIVER, MODE, 5, CLOCK, 7, NAME, NAME,
 ];
@@ -60,8 +61,8 @@ pub struct FrameField {
     pub width: usize,
 }
 
-/// Returns the field with this index in the frame of these digits. If they name no version, it is that of a frame of the newest one. The
-/// name is as long as the byte before it says.
+/// Returns the field with this index in the frame of these digits. If they name no version, it is that of a frame of
+/// the newest one. The name is as long as the byte before it says.
 pub fn field_at(digits: &[u8], index: usize) -> FrameField {
     let [version, ..] = number_at(digits, 0, 1).to_le_bytes();
     let places = format_of(&[version]).unwrap_or(Format::V2).places();

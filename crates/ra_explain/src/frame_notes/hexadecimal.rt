@@ -4,11 +4,12 @@ use ra_stamp::Memory;
 use ra_text::{Note, cut};
 use std::alloc::Global;
 
-/// The most bytes that a line may have, without its line feed: as many as `MAX_LINE` of `ra_book_text`, which this crate does not see.
+/// The most bytes that a line may have, without its line feed: as many as `MAX_LINE` of `ra_book_text`, which this
+/// crate does not see.
 const MAX_LINE: usize = 256;
 
-/// Adds why the bytes of a line, after this many others, are not an even number of hexadecimal digits: which byte is not
-/// one, or how many digits there are.
+/// Adds why the bytes of a line, after this many others, are not an even number of hexadecimal digits: which byte is
+/// not one, or how many digits there are.
 pub fn push_digits_fault(note: &mut Note, digits: &[u8], before: usize) {
     for (place, byte) in digits.iter().enumerate() {
         if !byte.is_ascii_hexdigit() {

@@ -1,15 +1,57 @@
-//! Which mark is due at a line of a trace, and which REPLY a client still awaits that the line lets in.
+//! Which send or mark is due at a line of a trace, and which REPLY a client still awaits that the line lets in.
 use crate::note_parts::{push_number_in, push_numbered};
 use crate::trace_notes::open_request::Stage;
 use crate::trace_notes::replay::Replay;
-use ra_stamp::Mark;
+use ra_stamp::{Mark, Message};
 use ra_text::{Note, mark_line};
+use ra_trace::Line;
 use std::alloc::Global;
 
-/// Adds which mark is due at a line of a trace, or that none is. In that case, if the line grants a request that waits, it adds
-/// whose REPLY the client still awaits.
-pub fn push_due(alloc: Global, note: &mut Note, replay: &Replay, due: &Option<Mark>) {
-    if let Some(mark) = due {
+/// Adds a number after a space.
+fn push_field(note: &mut Note, number: u64) {
+    note.push(" ");
+    note.number(number);
+}
+
+/// Adds the line of a message that a step sends.
+fn push_send(note: &mut Note, message: &Message) {
+    note.push(match message {
+        Message::Request { .. } => "send request",
+        Message::Reply { .. } => "send reply",
+    });
+    push_field(note, u64::from(message.from().get()));
+    push_field(note, u64::from(message.to().get()));
+    note.push(" ");
+    note.push(message.name().as_str());
+    if let Message::Request { mode, .. } = message {
+        note.push(" ");
+        note.push(mode.word());
+    }
+    push_field(note, message.seq());
+}
+
+/// Adds which message or mark is due at a line of a trace, or that none is. If no mark is and the line grants a request
+/// that waits, it adds whose REPLY the client still awaits.
+pub fn push_due(alloc: Global, note: &mut Note, replay: &Replay, line: &[u8], due: &Option<Line>) {
+    if let Some(Line::Sent(message)) = due {
+        note.push("expected ");
+        push_send(note, message);
+        if !line.starts_with(b"send ") {
+            note.push(" first");
+        }
+        push_number_in(note, ", which the step in line ", replay.step_at, " sends");
+        return;
+    }
+    if line.starts_with(b"send ") {
+        push_number_in(
+            note,
+            "the step in line ",
+            replay.step_at,
+            " sends no other message",
+        );
+        return;
+    }
+    if let Some(Line::Marked(mark)) = due {
         match mark_line(alloc, mark) {
             Ok(line) => {
                 note.push("expected the mark '");

@@ -11,13 +11,13 @@ pub fn field_range(field: Field, version: Option<Version>) -> &'static str {
     match field {
         Field::Nodes | Field::Node | Field::From | Field::To => match version {
             Some(Version::One) => "1 to 16 in version 1, without leading zeros",
-            Some(Version::Two) => "1 to 64, without leading zeros",
-            None => "1 to 16 in version 1, or 1 to 64 in version 2, without leading zeros",
+            Some(_) => "1 to 64, without leading zeros",
+            None => "1 to 16 in version 1, otherwise 1 to 64, without leading zeros",
         },
         Field::Mode => match version {
             Some(Version::One) => "S or X in version 1",
-            Some(Version::Two) => "S, X, IS, IX or SIX",
-            None => "S or X in version 1, or S, X, IS, IX or SIX in version 2",
+            Some(_) => "S, X, IS, IX or SIX",
+            None => "S or X in version 1, otherwise S, X, IS, IX or SIX",
         },
         Field::Client => "0 to 4294967295, without leading zeros",
         Field::Name => "1 to 32 characters from A-Z, a-z, 0-9, _, - and .",

@@ -1,17 +1,23 @@
 //! Which form a line of a trace or of a mark log has, by its words.
+use ra_text::cut;
 use ra_trace::{Change, Fate, LineKind, Version};
+
+/// What ends the first line of a trace that tells what is sent.
+pub const SENDS: &[u8] = b" sends";
 
 /// The marks.
 pub const MARKS: &[LineKind] = &[
     LineKind::Mark(Change::Requested),
     LineKind::Mark(Change::Entered),
     LineKind::Mark(Change::Left),
+    LineKind::Mark(Change::Withdrawn),
 ];
 
 /// The first lines of traces.
 pub const FIRST_LINES: &[LineKind] = &[
     LineKind::First(Version::One),
     LineKind::First(Version::Two),
+    LineKind::First(Version::Three),
 ];
 
 /// The lines after the first one: marks, steps, and the last line.
@@ -19,14 +25,19 @@ pub const LATER_LINES: &[LineKind] = &[
     LineKind::Mark(Change::Requested),
     LineKind::Mark(Change::Entered),
     LineKind::Mark(Change::Left),
+    LineKind::Mark(Change::Withdrawn),
     LineKind::Ask,
     LineKind::Leave,
+    LineKind::Cancel,
+    LineKind::Forget,
     LineKind::Request(Fate::Delivered),
     LineKind::Reply(Fate::Delivered),
     LineKind::Request(Fate::Lost),
     LineKind::Reply(Fate::Lost),
     LineKind::Request(Fate::Repeated),
     LineKind::Reply(Fate::Repeated),
+    LineKind::Request(Fate::Told),
+    LineKind::Reply(Fate::Told),
     LineKind::Last,
 ];
 
@@ -54,6 +65,13 @@ pub fn version_of(text: &[u8]) -> Option<Version> {
         Some(Version::One)
     } else if text.starts_with(LineKind::First(Version::Two).words().as_bytes()) {
         Some(Version::Two)
+    } else if text.starts_with(LineKind::First(Version::Three).words().as_bytes()) {
+        let (first, _) = cut(text, b'\n');
+        Some(if first.ends_with(SENDS) {
+            Version::ThreeWithSends
+        } else {
+            Version::Three
+        })
     } else {
         None
     }

@@ -8,11 +8,11 @@ use ra_trace::{MAX_LINE, Version};
 
 /// The text for a later line that does not begin with any of the words of a trace.
 const WORDS: &str =
-    "expected a line that begins with ask, release, deliver, lose, repeat, request, enter or leave, or the last line, end";
+    "expected a line that begins with ask, release, cancel, forget, deliver, lose, repeat, send, request, enter, leave or withdraw, or the last line, end";
 
 /// The text for the first line of a text that is not a trace.
 const NOT_FIRST: &str =
-    "expected trace 2 NODES START, or trace 1 NODES START in version 1, as the first line of a trace";
+    "expected trace 2 NODES START, or another version of it, as the first line of a trace";
 
 /// Returns the text for a line that does not end as lines must, or `None`.
 fn end_text(line: &TextLine<'_>) -> Option<&'static str> {
@@ -33,6 +33,31 @@ fn end_text(line: &TextLine<'_>) -> Option<&'static str> {
     })
 }
 
+/// Returns the text for a line that only another version of a trace has, or `None`.
+fn lacking_text(line: &[u8], version: Option<Version>) -> Option<&'static str> {
+    let is_one = matches!(version, Some(Version::One));
+    if is_one && line.starts_with(b"repeat ") {
+        return Some("version 1 has no repeats");
+    }
+    if !matches!(version, Some(Version::ThreeWithSends)) && line.starts_with(b"send ") {
+        return Some(
+            "the first line of this trace does not end with sends, so it has no such lines",
+        );
+    }
+    if !matches!(version, Some(Version::One | Version::Two)) {
+        return None;
+    }
+    if line.starts_with(b"cancel ") {
+        Some("only version 3 has cancels")
+    } else if line.starts_with(b"forget ") {
+        Some("only version 3 has forgetting")
+    } else if line.starts_with(b"withdraw ") {
+        Some("only version 3 has withdrawals")
+    } else {
+        None
+    }
+}
+
 /// Adds the text for a line that does not belong in a trace or is out of place, or `other` if nothing is found.
 pub fn push_trace_text(note: &mut Note, line: &TextLine<'_>, other: &str) {
     let text = line.bytes;
@@ -46,10 +71,8 @@ pub fn push_trace_text(note: &mut Note, line: &TextLine<'_>, other: &str) {
         }
     } else if kind_of(FIRST_LINES, text).is_some() {
         note.push("only the first line of a trace may begin with trace");
-    } else if text.starts_with(b"repeat ")
-        && matches!(version_of(line.before), Some(Version::One))
-    {
-        note.push("version 1 has no repeats");
+    } else if let Some(lacking) = lacking_text(text, version_of(line.before)) {
+        note.push(lacking);
     } else if kind_of(LATER_LINES, text).is_some() {
         if !push_line_fault(note, LATER_LINES, text, version_of(line.before)) {
             note.push(other);
@@ -66,7 +89,7 @@ pub fn push_mark_text(note: &mut Note, line: &TextLine<'_>, other: &str) {
     let text = line.bytes;
     if let Some(ending) = end_text(line) {
         note.push(ending);
-    } else if !push_line_fault(note, MARKS, text, Some(Version::Two)) {
+    } else if !push_line_fault(note, MARKS, text, Some(Version::Three)) {
         let otherwise = if text.contains(&b'\t') { TAB } else { other };
         note.push(hint_at(&[AT_BOTH, AT_MARKS], text, otherwise));
     }

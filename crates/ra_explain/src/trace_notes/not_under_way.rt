@@ -36,9 +36,9 @@ fn push_awaited(note: &mut Note, replay: &Replay, reply: &Message, answered: &Op
     }
 }
 
-/// Adds why a message is not under way that a line of a trace delivers, loses or repeats: in which line it was last delivered or
-/// lost, or that it was never sent. Of a REPLY to a request that waits or holds, it adds why it was never sent. If the line has
-/// no message, it adds `other`.
+/// Adds why a message is not under way that a line of a trace delivers, loses or repeats: in which line it was last
+/// delivered or lost, or that it was never sent. Of a REPLY to a request that waits or holds, it adds why it was never
+/// sent. If the line has no message, it adds `other`.
 pub fn push_not_under_way(note: &mut Note, line: &TextLine<'_>, replay: &Replay, other: &str) {
     let Some(message) = &replay.message else {
         note.push(other);

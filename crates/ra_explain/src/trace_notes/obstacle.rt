@@ -10,8 +10,8 @@ use ra_text::Note;
 use ra_trace::MarkCause;
 use std::alloc::Global;
 
-/// What is said of a mark of a trace that a lock table does not allow, in the order of `MarkCause`. If a request is in the way, it is
-/// named after that.
+/// What is said of a mark of a trace that a lock table does not allow, in the order of `MarkCause`. If a request is in
+/// the way, it is named after that.
 const IN_TABLE: [&str; 7] = [
     "the lock table does not allow this mark",
     "the lock table does not allow this mark: its node already waits for the name or holds it",
@@ -22,7 +22,8 @@ const IN_TABLE: [&str; 7] = [
     "the lock table does not allow this mark: no such request holds the name",
 ];
 
-/// Adds the first of these requests, which is in the way of another one, with its number, if there is one. Returns whether there is.
+/// Adds the first of these requests, which is in the way of another one, with its number, if there is one. Returns
+/// whether there is.
 fn push_other(note: &mut Note, joint: &str, open: &OpenRequests, sought: &Sought) -> bool {
     let request = open.next_of(0, sought);
     if let Some(request) = request {
@@ -33,10 +34,10 @@ fn push_other(note: &mut Note, joint: &str, open: &OpenRequests, sought: &Sought
     request.is_some()
 }
 
-/// Adds what became of an entry that should wait or hold and does not: it already holds, still waits, was released, or was
-/// never requested. In place of that last, it names a request like it if there is one: on its name the one of its node that
-/// waits or holds, the first of its client that does, or the last one that its node released. If there is none, and the entry
-/// should hold, it adds who holds the name.
+/// Adds what became of an entry that should wait or hold and does not: it already holds, still waits, was released or
+/// withdrawn, or was never requested. In place of that last, it names a request like it if there is one: on its name
+/// the one of its node that waits or holds, the first of its client that does, or the last one that its node released.
+/// If there is none, and the entry should hold, it adds who holds the name.
 fn push_fate(note: &mut Note, entry: &Entry, replay: &Replay, cause: MarkCause) {
     let open = &replay.open;
     if let Some(request) = open.request_of(entry) {
@@ -48,6 +49,8 @@ fn push_fate(note: &mut Note, entry: &Entry, replay: &Replay, cause: MarkCause) 
         push_numbered(note, text, request.since);
     } else if let Some(line) = replay.released_at {
         push_numbered(note, ": it was released in line ", line);
+    } else if let Some(line) = replay.withdrawn_at {
+        push_numbered(note, ": it was withdrawn in line ", line);
     } else if !push_other(
         note,
         ": ",
@@ -95,9 +98,10 @@ fn push_details(note: &mut Note, entry: &Entry, replay: &Replay, cause: MarkCaus
     }
 }
 
-/// Adds why the mark in a line is wrong, and what is in its way. In a mark log, `log_cause` is the cause, and `other` says it. In a
-/// trace, a lock table that takes the marks before it finds the cause. If there is no memory for the requests before the line, it
-/// adds `other` alone. The cost is linear in these requests, and in a trace that of a lock table for the marks.
+/// Adds why the mark in a line is wrong, and what is in its way. In a mark log, `log_cause` is the cause, and `other`
+/// says it. In a trace, a lock table that takes the marks before it finds the cause. If there is no memory for the
+/// requests before the line, it adds `other` alone. The cost is linear in these requests, and in a trace that of a lock
+/// table for the marks.
 pub fn push_obstacle(
     alloc: Global,
     note: &mut Note,

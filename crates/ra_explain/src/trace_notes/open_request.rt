@@ -56,7 +56,8 @@ impl OpenRequest {
         !self.stage.is(Stage::Queued) && self.entry.name == *name
     }
 
-    /// Returns whether it keeps out an entry that waits: it is another one on its name in a mode that conflicts, and holds or is earlier.
+    /// Returns whether it keeps out an entry that waits: it is another one on its name in a mode that conflicts, and
+    /// holds or is earlier.
     pub fn blocks(&self, entry: &Entry) -> bool {
         self.is_on(&entry.name)
             && conflicts(self.entry.mode, entry.mode)

@@ -60,12 +60,13 @@ impl OpenRequests {
         }
     }
 
-    /// Takes the mark in the line with this number. That a client releases shows in its mark.
+    /// Takes the mark in the line with this number. That a client releases shows in its mark, and so does that its
+    /// request is withdrawn.
     pub fn take_mark(&mut self, mark: &Mark, number: u64) {
         match mark {
             Mark::Requested(entry) => self.keep(entry, Stage::Waits, number),
             Mark::Entered(entry) => self.keep(entry, Stage::Holds, number),
-            Mark::Left(entry) => {
+            Mark::Left(entry) | Mark::Withdrawn(entry) => {
                 self.clients.remove(&key_of(entry));
             }
         }
@@ -81,6 +82,14 @@ impl OpenRequests {
         self.is_whole = self.is_whole && self.clients.insert(key_of(entry), open).is_ok();
     }
 
+    /// Takes that a client at a node cancels a name. If it is queued, it is so no more, and no mark says it.
+    pub fn take_cancel(&mut self, node: NodeId, client: u32, name: &Name) {
+        let key = (node, client, *name);
+        if matches!(self.clients.get(&key), Some(request) if request.stage.is(Stage::Queued)) {
+            self.clients.remove(&key);
+        }
+    }
+
     /// Returns the request of an entry, if that waits or holds.
     pub fn request_of(&self, entry: &Entry) -> Option<&OpenRequest> {
         match self.clients.get(&key_of(entry)) {
@@ -91,8 +100,8 @@ impl OpenRequests {
         }
     }
 
-    /// Returns the first request after a line that is one of these, in the order of the lines since which they are there. The cost is
-    /// linear in how many wait, are queued and hold.
+    /// Returns the first request after a line that is one of these, in the order of the lines since which they are
+    /// there. The cost is linear in how many wait, are queued and hold.
     pub fn next_of<'a>(&'a self, after: u64, sought: &Sought) -> Option<&'a OpenRequest> {
         let (mut found, mut first) = (None, u64::MAX);
         for (_, request) in self.clients.iter() {

@@ -23,14 +23,18 @@ pub struct Granted {
 pub struct Replay {
     /// How many nodes there are, if the first line is that of a trace.
     pub nodes: Option<u16>,
+    /// The last line of a step, counted from 1, or 0.
+    pub step_at: u64,
     /// Which clients wait, are queued and hold after these lines.
     pub open: OpenRequests,
-    /// The mark in the wrong line, if there is one. The next four fields are about its entry.
+    /// The mark in the wrong line, if there is one. The next five fields are about its entry.
     pub mark: Option<Mark>,
     /// The greatest number that was granted for its name.
     pub granted: Option<Granted>,
     /// The line in which it was released.
     pub released_at: Option<u64>,
+    /// The line in which it was withdrawn.
+    pub withdrawn_at: Option<u64>,
     /// The last entry that its node released on its name, and the line in which it did.
     pub released: Option<(Entry, u64)>,
     /// For each number of a node, whether a REPLY of that node to the request of the mark was delivered.
@@ -44,8 +48,8 @@ pub struct Replay {
 }
 
 impl Replay {
-    /// Reads these lines for what they say of the wrong line after them, `subject`, which is empty if the text ends there. The cost
-    /// is linear in them.
+    /// Reads these lines for what they say of the wrong line after them, `subject`, which is empty if the text ends
+    /// there. The cost is linear in them.
     pub fn of(alloc: Global, lines: &[u8], subject: &[u8]) -> Replay {
         let (mark, message) = match &Line::parse(subject) {
             Some(Line::Marked(mark)) => (Some(*mark), None),
@@ -56,10 +60,12 @@ impl Replay {
         };
         let mut replay = Replay {
             nodes: None,
+            step_at: 0,
             open: OpenRequests::new(alloc),
             mark,
             granted: None,
             released_at: None,
+            withdrawn_at: None,
             released: None,
             replied: [false; NUMBERS],
             message,
@@ -79,7 +85,11 @@ impl Replay {
 
     /// Notes what the line with this number says. A client that asks is queued until its request is made.
     fn take(&mut self, line: &[u8], number: u64) {
-        match &Line::parse(line) {
+        let line = Line::parse(line);
+        if let Some(Line::Stepped(_)) = line {
+            self.step_at = number;
+        }
+        match &line {
             Some(Line::First { nodes, .. }) => self.nodes = Some(nodes.get()),
             Some(
                 Line::Stepped(
@@ -102,6 +112,9 @@ impl Replay {
                 };
                 self.open.keep(&queued, Stage::Queued, number);
             }
+            Some(Line::Stepped(Step::Cancel { node, client, name })) => {
+                self.open.take_cancel(*node, *client, name);
+            }
             Some(Line::Stepped(Step::Deliver(message))) => self.take_message(
                 message, number, false,
             ),
@@ -117,7 +130,8 @@ impl Replay {
     /// Notes what the line with this number, which delivers or loses a message, says of the wrong line:
     ///
     /// - If the wrong line takes the same message: this line took it, and perhaps lost it.
-    /// - If the wrong line takes a REPLY, and this line delivers the REQUEST that it answers: the REQUEST came in this line.
+    /// - If the wrong line takes a REPLY, and this line delivers the REQUEST that it answers: the REQUEST came in this
+    ///   line.
     /// - If the wrong line has a mark, and this line delivers a REPLY to its request: that node has replied.
     fn take_message(&mut self, message: &Message, number: u64, is_lost: bool) {
         if let Some(sought) = self.message {
@@ -159,8 +173,8 @@ impl Replay {
         }
     }
 
-    /// Notes what the mark in the line with this number says of the mark in the wrong line: a grant for the same name, or a
-    /// release of it by the same node.
+    /// Notes what the mark in the line with this number says of the mark in the wrong line: a grant for the same name,
+    /// a release of it by the same node, or that the very request was withdrawn.
     fn take_mark(&mut self, mark: &Mark, number: u64) {
         let Some(subject) = self.mark else {
             return;
@@ -183,6 +197,7 @@ impl Replay {
                 }
                 self.released = Some((*made, number));
             }
+            Mark::Withdrawn(_) if *made == entry => self.withdrawn_at = Some(number),
             _ => {}
         }
     }
@@ -195,8 +210,8 @@ impl Replay {
         }
     }
 
-    /// Returns the first of the other nodes whose REPLY to the request of an entry was not delivered, and how many more such nodes
-    /// there are. Returns `None` if each other node has replied.
+    /// Returns the first of the other nodes whose REPLY to the request of an entry was not delivered, and how many more
+    /// such nodes there are. Returns `None` if each other node has replied.
     pub fn missing(&self, entry: &Entry) -> Option<(u16, u16)> {
         let (mut first, mut others) = (None, 0);
         for before in 0..self.nodes.unwrap_or(0) {

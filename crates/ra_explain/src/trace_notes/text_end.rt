@@ -5,6 +5,7 @@ use crate::trace_notes::line_form::version_of;
 use crate::trace_notes::open_request::{Stage, push_entry};
 use crate::trace_notes::open_requests::{OpenRequests, Sought};
 use crate::trace_notes::replay::Replay;
+use crate::trace_notes::withdrawals::push_withdrawals;
 use memchr::memchr;
 use ra_stamp::Memory;
 use ra_text::Note;
@@ -33,6 +34,8 @@ struct LineCounts {
     deliveries: u64,
     losses: u64,
     repeats: u64,
+    cancels: u64,
+    withdrawals: u64,
 }
 
 /// How many bytes are looked at together for line feeds.
@@ -49,6 +52,8 @@ impl LineCounts {
             deliveries: 0,
             losses: 0,
             repeats: 0,
+            cancels: 0,
+            withdrawals: 0,
         };
         counts.add(text);
         let mut rest = text;
@@ -93,14 +98,16 @@ impl LineCounts {
             (b'a', _, _) => self.asks = self.asks.saturating_add(1),
             (b'l', b'o', _) => self.losses = self.losses.saturating_add(1),
             (b'r', _, b'p') => self.repeats = self.repeats.saturating_add(1),
-            // That a client releases shows in its mark.
+            (b'c', _, _) => self.cancels = self.cancels.saturating_add(1),
+            (b'w', _, _) => self.withdrawals = self.withdrawals.saturating_add(1),
+            // That a client releases shows in its mark. What is sent, and that a node forgets, leaves nothing.
             _ => {}
         }
     }
 }
 
-/// Adds the first clients at a stage, and what is in the way of those that wait or are queued: `want` if no other client is. Returns how
-/// many clients are named then, if this many are named before.
+/// Adds the first clients at a stage, and what is in the way of those that wait or are queued: `want` if no other
+/// client is. Returns how many clients are named then, if this many are named before.
 fn push_clients(
     note: &mut Note,
     open: &OpenRequests,
@@ -129,8 +136,8 @@ fn push_clients(
     named
 }
 
-/// Adds how many things are left and what they do, after this text, if there are any. Returns the text after which more things are
-/// added.
+/// Adds how many things are left and what they do, after this text, if there are any. Returns the text after which more
+/// things are added.
 fn push_count<'a>(note: &mut Note, joint: &'a str, count: u64, thing: &str, does: &str) -> &'a str {
     if count == 0 {
         return joint;
@@ -155,7 +162,8 @@ fn push_counts(note: &mut Note, left: &LeftOver, is_trace: bool) {
     push_count(note, joint, left.holding, " request", "holding");
 }
 
-/// Adds what is left at the end of a text: how much, and the first clients at each stage, or that there was no memory for them.
+/// Adds what is left at the end of a text: how much, and the first clients at each stage, or that there was no memory
+/// for them.
 fn push_end(alloc: Global, note: &mut Note, text: &[u8], left: &LeftOver) {
     let is_trace = version_of(text).is_some();
     push_counts(note, left, is_trace);
@@ -175,11 +183,13 @@ fn push_end(alloc: Global, note: &mut Note, text: &[u8], left: &LeftOver) {
     }
 }
 
-/// Returns a note on what is left at the end of a text, which is a mark log, or a trace in which this many messages were sent. The note
-/// counts the messages that are under way and lost, and the requests that wait, are queued or hold, and leaves out those of which
-/// there are none. At each stage it names the first four clients and since which lines they are there, and which clients those
-/// wait for that wait or are queued. If there is no memory for the clients, it only counts. Of a log without a mark it says that.
-/// Returns `None` if nothing is left. The cost is linear in the text. If nothing is left, it does not allocate.
+/// Returns a note on what is left at the end of a text, which is a mark log, or a trace in which this many messages
+/// were sent. The note counts the messages that are under way and lost, and the requests that wait, are queued or hold,
+/// and leaves out those of which there are none. At each stage it names the first four clients and since which lines
+/// they are there, and which clients those wait for that wait or are queued. If there is no memory for the clients, it
+/// only counts. Of a log without a mark it says that. At the end it names the first four requests that were withdrawn.
+/// Returns `None` if nothing is left and none was withdrawn. The cost is linear in the text. It does not allocate if it
+/// returns `None`.
 ///
 /// # Errors
 ///
@@ -198,9 +208,15 @@ pub fn end_note(alloc: Global, text: &[u8], sent: u128) -> Result<Option<String>
             .saturating_add(counts.repeats)
             .saturating_sub(counts.losses.saturating_add(counts.deliveries)),
         lost: counts.losses,
-        // A client that asked is queued until its request is made, which waits until it is granted. In a mark log nobody asks.
-        waiting: counts.requests.saturating_sub(counts.enters),
-        queued: counts.asks.saturating_sub(counts.requests),
+        // A client that asked is queued until its request is made, which waits until it is granted. By a cancel it is
+        // queued no more, or its request is withdrawn. In a mark log nobody asks.
+        waiting: counts
+            .requests
+            .saturating_sub(counts.enters.saturating_add(counts.withdrawals)),
+        queued: counts
+            .asks
+            .saturating_add(counts.withdrawals)
+            .saturating_sub(counts.requests.saturating_add(counts.cancels)),
         holding: counts.enters.saturating_sub(counts.leaves),
     };
     if text.is_empty() {
@@ -208,6 +224,11 @@ pub fn end_note(alloc: Global, text: &[u8], sent: u128) -> Result<Option<String>
     } else if left.under_way > 0 || left.waiting > 0 || left.queued > 0 || left.holding > 0 {
         // A lost message is nothing left to do.
         push_end(alloc, &mut note, text, &left);
+        if counts.withdrawals > 0 {
+            push_withdrawals(alloc, &mut note, "; ", text, counts.withdrawals);
+        }
+    } else if counts.withdrawals > 0 {
+        push_withdrawals(alloc, &mut note, "", text, counts.withdrawals);
     }
     note.finish()
 }

@@ -9,8 +9,8 @@ use ra_stamp::{Memory, NodeId};
 use ra_text::Note;
 use std::alloc::Global;
 
-/// Adds what is in the way of a client of a node: of one that waits, which requests block it, and of one that is queued, which
-/// client is ahead of it.
+/// Adds what is in the way of a client of a node: of one that waits, which requests block it, and of one that is
+/// queued, which client is ahead of it.
 fn push_reason(note: &mut Note, ending: &RunEnd<'_>, node: NodeId, client_end: &ClientEnd) {
     match client_end {
         ClientEnd::Waits(entry) => {
@@ -33,8 +33,9 @@ fn push_reason(note: &mut Note, ending: &RunEnd<'_>, node: NodeId, client_end: &
     }
 }
 
-/// Adds the states of the first clients with something left to do: if `waits`, of those that wait or are queued, and otherwise of
-/// the others. Clients that were counted `before` are among the first. Returns how many clients were counted so far.
+/// Adds the states of the first clients with something left to do: if `waits`, of those that wait or are queued, and
+/// otherwise of the others. Clients that were counted `before` are among the first. Returns how many clients were
+/// counted so far.
 fn push_clients(note: &mut Note, ending: &RunEnd<'_>, waits: bool, before: u64) -> u64 {
     let mut count = before;
     for place in 0..ending.script.clients() {
@@ -78,8 +79,8 @@ pub fn push_run(alloc: Global, note: &mut Note, script: &Script, policy: &Policy
 }
 
 /// Returns a note on what is left to do when a policy has driven the script in a text. For each client that waits or is
-/// queued, the note says for what, and which clients are in its way; other clients come after these. Returns `None` if the run is
-/// finished or refused. It costs as much as the run.
+/// queued, the note says for what, and which clients are in its way; other clients come after these. Returns `None` if
+/// the run is finished or refused. It costs as much as the run.
 ///
 /// # Errors
 ///

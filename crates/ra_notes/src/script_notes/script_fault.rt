@@ -33,7 +33,8 @@ const LOOKS: &[Look] = &[
     },
 ];
 
-/// Repeats what the parser says of a text that is not a TOML document, and says what the text looks like, if that is known.
+/// Repeats what the parser says of a text that is not a TOML document, and says what the text looks like, if that is
+/// known.
 fn say_toml(alloc: Global, note: &mut Note, text: &str, fault: &toml::de::Error) {
     note.refuse_if(fault.is_memory());
     note.push("the script is not valid TOML: ");
@@ -67,8 +68,8 @@ fn say_refused(note: &mut Note, client: usize, place: usize, op: &str, fault: Sc
     });
 }
 
-/// Says what is wrong with the client that has this number, if anything is: that it has too many operations, or which of
-/// them is the first to be refused. The client goes into the script.
+/// Says what is wrong with the client that has this number, if anything is: that it has too many operations, or which
+/// of them is the first to be refused. The client goes into the script.
 fn say_client(alloc: Global, note: &mut Note, script: &mut Script, client: usize, ops: &[&str]) {
     let count = ops.len();
     if count > Script::MAX_OPS {

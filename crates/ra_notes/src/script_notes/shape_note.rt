@@ -38,8 +38,8 @@ fn unknown_key<'a>(table: &'a Table, first: &str, second: &str) -> Option<&'a st
     None
 }
 
-/// Says what is wrong with a table that must have an integer and an array, or returns the array if nothing is wrong. A key
-/// is unknown, or the first that is wanting is missing, or its value has the wrong type.
+/// Says what is wrong with a table that must have an integer and an array, or returns the array if nothing is wrong. A
+/// key is unknown, or the first that is wanting is missing, or its value has the wrong type.
 fn array_in<'a>(
     note: &mut Note,
     table: &'a Table,

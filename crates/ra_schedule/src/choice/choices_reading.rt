@@ -8,8 +8,8 @@ use crate::choice::MAX_DIGITS;
 use crate::{Choice, Choices, ChoicesError};
 use std::alloc::Global;
 
-/// Returns the number that 1 to 9 digits spell, or `None` if these are no such digits, or the first of two or more is `0`. It does not
-/// allocate. The numbers of a trace have any length, and each format is read by itself.
+/// Returns the number that 1 to 9 digits spell, or `None` if these are no such digits, or the first of two or more is
+/// `0`. It does not allocate. The numbers of a trace have any length, and each format is read by itself.
 fn decimal_of(digits: &[u8]) -> Option<u32>
     ensures { result ≡ spec.decimal_of digits.now }
 {
@@ -29,8 +29,8 @@ fn decimal_of(digits: &[u8]) -> Option<u32>
     Some(value)
 }
 
-/// Returns the choice that a word spells, or `None` if it spells none: `c`, `m` or `l`, and a decimal of 1 to 9 digits without
-/// leading zeros. It does not allocate.
+/// Returns the choice that a word spells, or `None` if it spells none: `c`, `m` or `l`, and a decimal of 1 to 9 digits
+/// without leading zeros. It does not allocate.
 fn choice_of(word: &[u8]) -> Option<Choice>
     ensures { result ≡ spec.choice_of word.now }
 {
@@ -70,17 +70,17 @@ fn push_choices(choices: &mut Choices, text: &str) -> Result<(), ChoicesError>
     Ok(())
 }
 
-/// Reads a list of choices: words with one space between them, and none at the ends. The empty text is the empty list. A word is
-/// `c`, `m` or `l` and a decimal of 1 to 9 digits without leading zeros. `cK` is the next operation of client K, `mI` delivers
-/// the message at place I, and `lI` loses it. The cost is linear in the text.
+/// Reads a list of choices: words with one space between them, and none at the ends. The empty text is the empty list.
+/// A word is `c`, `m` or `l` and a decimal of 1 to 9 digits without leading zeros. `cK` is the next operation of client
+/// K, `mI` delivers the message at place I, and `lI` loses it. The cost is linear in the text.
 ///
 /// # Errors
 ///
 /// The first that holds:
 ///
 /// 1. `Choice`: a word is not one of these.
-/// 2. `Memory`, which may come before it, but only after a word that is one. So if the first word is not a choice, or the
-///    text is empty, it does not come.
+/// 2. `Memory`, which may come before it, but only after a word that is one. So if the first word is not a choice, or
+///    the text is empty, it does not come.
 pub fn read_choices(alloc: Global, text: &str) -> Result<Choices, ChoicesError>
     ensures ok { IfOk result (λ choices. spec.choices_of text.now ≡ Some choices.items) }
     ensures refused { IfErr result (λ fault. ((fault ≡ ChoicesError.Choice) × (spec.choices_of text.now ≡ None))

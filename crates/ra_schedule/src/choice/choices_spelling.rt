@@ -61,8 +61,8 @@ fn words_of(alloc: Global, choices: &Choices) -> Result<String, Memory>
     Ok(text)
 }
 
-/// Returns a list of choices as it is written, so that [`read_choices`](crate::read_choices) gives it back. The cost is linear in the
-/// text.
+/// Returns a list of choices as it is written, so that [`read_choices`](crate::read_choices) gives it back. The cost is
+/// linear in the text.
 ///
 /// # Errors
 ///

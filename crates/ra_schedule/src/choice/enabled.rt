@@ -44,7 +44,8 @@ impl Enabled {
         Ok(enabled)
     }
 
-    /// Returns the enabled client with this number, counted from 0 in the order of the script, or `None` past the last one.
+    /// Returns the enabled client with this number, counted from 0 in the order of the script, or `None` past the last
+    /// one.
     pub fn at(&self, script: &Script, number: u32) -> Option<u32>
         requires { length self.now.flags.items ≡ length script.now.clients }
         ensures { result ≡ slice_get (numbers_from 1 self.now.flags.items) number }

@@ -91,8 +91,8 @@ pub fn with_meaning(script: &Script, world: &World, clients: &[Progress], choice
     Picked { choice, meaning }
 }
 
-/// Returns the choice that the policy makes next, with its meaning, or `None` at the end. No client before the place `first` is
-/// enabled.
+/// Returns the choice that the policy makes next, with its meaning, or `None` at the end. No client before the place
+/// `first` is enabled.
 #[inline(always)]
 pub fn pick(
     script: &Script,

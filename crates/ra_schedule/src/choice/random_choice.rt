@@ -42,7 +42,8 @@ fn draw(
     }
 }
 
-/// Draws the words of a turn and returns the choice that the policy makes by them. At the end it draws none and returns `None`.
+/// Draws the words of a turn and returns the choice that the policy makes by them. At the end it draws none and returns
+/// `None`.
 pub fn choose(
     policy: &Policy,
     generator: &mut Lcg128Xsl64,

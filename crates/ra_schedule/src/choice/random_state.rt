@@ -36,7 +36,8 @@ impl Drop for RandomState {
 }
 
 impl RandomState {
-    /// Makes what the random choice begins with, or `None` if the policy has no seed: then nothing is kept, and no memory taken.
+    /// Makes what the random choice begins with, or `None` if the policy has no seed: then nothing is kept, and no
+    /// memory taken.
     ///
     /// # Errors
     ///
@@ -68,8 +69,8 @@ impl RandomState {
     }
 }
 
-/// Notes a step that was made with these marks, if the choice is random. Only at its node something has changed, so that only the
-/// clients there are looked at, and those that entered.
+/// Notes a step that was made with these marks, if the choice is random. Only at its node something has changed, so
+/// that only the clients there are looked at, and those that entered.
 pub fn note_step_in(
     random: &mut Option<RandomState>,
     script: &Script,

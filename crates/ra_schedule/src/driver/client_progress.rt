@@ -16,8 +16,8 @@ pub struct Progress {
     pub waiting: bool,
 }
 
-/// Returns the place of the first client that does not wait and has something left to do, or the number of clients if there is
-/// none. There must be none before the place `first`.
+/// Returns the place of the first client that does not wait and has something left to do, or the number of clients if
+/// there is none. There must be none before the place `first`.
 pub fn first_free(script: &Script, clients: &[Progress], first: u32) -> u32
     requires alike { length clients.now ≡ length script.now.clients }
     requires stuck { WaitOrAreDone script.now clients.now first }
@@ -92,12 +92,17 @@ fn note_marks(list: &mut [Progress], marks: &[Mark])
 /// Notes a step and its marks: its client moves on, and those that entered wait no longer.
 pub fn note_move(list: &mut [Progress], step: &Step, marks: &[Mark])
     requires { AreCountable list.old }
-    ensures { (move : Move) → move.step ≡ step.now → move.marks ≡ marks.now → OfEach (IsProgressAfter move) list.old list.new }
+    ensures { (move : Move) → move.step ≡ step.now → move.marks ≡ marks.now
+        → OfEach (IsProgressAfter move) list.old list.new }
 {
     match *step {
         Step::Ask { client, .. } => advance(list, client, true),
         Step::Leave { client, .. } => advance(list, client, false),
-        Step::Deliver(_) | Step::Lose(_) | Step::Repeat(_) => {}
+        Step::Cancel { .. }
+        | Step::Deliver(_)
+        | Step::Lose(_)
+        | Step::Repeat(_)
+        | Step::Forget { .. } => {}
     }
     note_marks(list, marks);
 }

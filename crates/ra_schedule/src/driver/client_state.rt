@@ -25,8 +25,8 @@ pub enum ClientState {
     Next(Op, bool),
 }
 
-/// Returns what a client waits for, and since when: its last ask among these steps. The cost is linear in the number of steps after
-/// it.
+/// Returns what a client waits for, and since when: its last ask among these steps. The cost is linear in the number of
+/// steps after it.
 fn waits_since(steps: &[Step], client: u32) -> ClientState
     ensures { (moves : List Move) → steps.now ≡ steps_of moves → IsWaiting client moves
         → IsWaitingAt client moves result }

@@ -53,10 +53,11 @@ pub struct Driven {
     pub stuck: bool,
 }
 
-/// Drives a cluster through a script, from numbers that begin at 0. At each turn the policy makes a choice, and what it stands
-/// for is done, until no choice is left. A turn costs time linear in the number of clients, on average, and that of
-/// `World::step_near`. Whether a client may ask takes time linear in the queue of the name that it asks for, if there was no
-/// memory to know the clients of a long one. The steps and choices take memory linear in the number of turns.
+/// Drives a cluster through a script, from numbers that begin at 0. At each turn the policy makes a choice, and what it
+/// stands for is done, until no choice is left. A turn costs time linear in the number of clients, on average, and that
+/// of `World::step_near`. Whether a client may ask takes time linear in the queue of the name that it asks for, if
+/// there was no memory to know the clients of a long one. The steps and choices take memory linear in the number of
+/// turns.
 ///
 /// # Errors
 ///
@@ -92,8 +93,8 @@ pub fn drive(
     })
 }
 
-/// Does as [`drive`], and keeps no steps and no choices. So it takes less time, and memory only for the world and for what it
-/// reports.
+/// Does as [`drive`], and keeps no steps and no choices. So it takes less time, and memory only for the world and for
+/// what it reports.
 ///
 /// # Errors
 ///
@@ -130,8 +131,8 @@ pub fn drive_through(
     Ok(ended(script, cluster))
 }
 
-/// Makes the cluster of a script, in which nothing has happened yet, and what drives it, which records the steps and choices, or
-/// none.
+/// Makes the cluster of a script, in which nothing has happened yet, and what drives it, which records the steps and
+/// choices, or none.
 ///
 /// # Errors
 ///

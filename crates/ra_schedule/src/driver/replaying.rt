@@ -57,7 +57,8 @@ fn place_like(world: &World, message: &Message) -> Option<u64>
     None
 }
 
-/// Returns the choice by which a step is done again, whether it can be made now or not, or `None` if there is no such message.
+/// Returns the choice by which a step is done again, whether it can be made now or not, or `None` if there is no such
+/// message.
 fn choice_for(world: &World, step: &Step) -> Option<Choice>
     ensures some { IfSome result (IsFor world.now.moves step.now) }
     ensures none { IsNone result → (choice : Choice) → IsFor world.now.moves step.now choice → ⊥ }
@@ -66,6 +67,7 @@ fn choice_for(world: &World, step: &Step) -> Option<Choice>
         Step::Ask { client, .. } | Step::Leave { client, .. } => {
             return Some(Choice::Client(*client));
         }
+        Step::Cancel { .. } | Step::Forget { .. } => return None,
         Step::Deliver(message) | Step::Lose(message) | Step::Repeat(message) => message,
     };
     let place = place_like(world, message)?;
@@ -154,8 +156,8 @@ fn go_on(
     Ok(())
 }
 
-/// Does what steps did, as far as it can be done, and goes on with the oldest choice of those that have begun, until no such
-/// choice is left, or there are this many steps. Returns whether the run is stuck then, with fewer steps.
+/// Does what steps did, as far as it can be done, and goes on with the oldest choice of those that have begun, until no
+/// such choice is left, or there are this many steps. Returns whether the run is stuck then, with fewer steps.
 ///
 /// # Errors
 ///
@@ -172,7 +174,8 @@ pub fn replay(
     requires replay { IsReplay script.now world.old driver.old }
     ensures replay { OnOk result (IsReplay script.now world.new driver.new) }
     ensures comes { OnOk result (ComesOf script.now steps.now limit world.new.moves) }
-    ensures shorter { IfOk result (λ is. IsTrue is ↔ ((length world.new.moves < limit) × IsStuckRun script.now world.new.moves)) }
+    ensures shorter { IfOk result
+        (λ is. IsTrue is ↔ ((length world.new.moves < limit) × IsStuckRun script.now world.new.moves)) }
 {
     redo_all(alloc, script, world, driver, steps)?;
     go_on(alloc, script, world, driver, limit)?;

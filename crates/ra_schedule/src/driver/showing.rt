@@ -23,10 +23,10 @@ pub struct Shown {
     pub finished: bool,
 }
 
-/// Drives a cluster through a script, as [`drive`](crate::drive) does, and returns the lines of the state at the end. They tell of
-/// each name of the script, so that the requests that wait and hold in them are the whole lock table. Beyond that
-/// it costs what `World::state_text` does for the names of the script, and for each client that waits a look at the steps since its
-/// ask.
+/// Drives a cluster through a script, as [`drive`](crate::drive) does, and returns the lines of the state at the end.
+/// They tell of each name of the script, so that the requests that wait and hold in them are the whole lock table.
+/// Beyond that it costs what `World::state_text` does for the names of the script, and for each client that waits a
+/// look at the steps since its ask.
 ///
 /// # Errors
 ///

@@ -42,8 +42,10 @@ fn client_of(step: &Step) -> Option<u32>
     ensures { result ≡ spec.client_of step.now }
 {
     match step {
-        Step::Ask { client, .. } | Step::Leave { client, .. } => Some(*client),
-        Step::Deliver(_) | Step::Lose(_) | Step::Repeat(_) => None,
+        Step::Ask { client, .. } | Step::Leave { client, .. } | Step::Cancel { client, .. } => {
+            Some(*client)
+        }
+        Step::Deliver(_) | Step::Lose(_) | Step::Repeat(_) | Step::Forget { .. } => None,
     }
 }
 
@@ -116,8 +118,8 @@ fn try_without(
     Ok(Some(Listed { steps, choices }))
 }
 
-/// Returns a shorter run that is stuck, the first one that is found if one step after the other is left out, from one place up to
-/// another, or `None`.
+/// Returns a shorter run that is stuck, the first one that is found if one step after the other is left out, from one
+/// place up to another, or `None`.
 ///
 /// # Errors
 ///
@@ -130,7 +132,8 @@ fn shorter_between(
     to: usize,
 ) -> Result<Option<ShorterRun>, Memory>
     requires { to ≤ length steps.now }
-    ensures { IfOk result (λ found. MatchOption found (AreInVain script.now steps.now from to) (IsShorterRunOf script.now steps.now)) }
+    ensures { IfOk result
+        (λ found. MatchOption found (AreInVain script.now steps.now from to) (IsShorterRunOf script.now steps.now)) }
 {
     for place in from..to {
         if let Some(list) = try_without(alloc, script, steps, place)? {
@@ -140,8 +143,8 @@ fn shorter_between(
     Ok(None)
 }
 
-/// Returns a shorter run that is stuck, the first one that is found if one step after the other is left out, those from a place on
-/// and then those before it, or `None`.
+/// Returns a shorter run that is stuck, the first one that is found if one step after the other is left out, those from
+/// a place on and then those before it, or `None`.
 ///
 /// # Errors
 ///
@@ -152,7 +155,8 @@ fn shorter(
     steps: &[Step],
     first: usize,
 ) -> Result<Option<ShorterRun>, Memory>
-    ensures { IfOk result (λ found. MatchOption found (IsLeast script.now steps.now) (IsShorterRunOf script.now steps.now)) }
+    ensures { IfOk result
+        (λ found. MatchOption found (IsLeast script.now steps.now) (IsShorterRunOf script.now steps.now)) }
 {
     let start = first.min(steps.len());
     match shorter_between(alloc, script, steps, start, steps.len())? {
@@ -161,15 +165,16 @@ fn shorter(
     }
 }
 
-/// Makes a run that is stuck shorter as long as a step can be left out. After a step that was left out, those that follow it are
-/// next: what could not be left out before it is likely to be needed still. The list is lent, so that it need not be given back at
-/// each exit.
+/// Makes a run that is stuck shorter as long as a step can be left out. After a step that was left out, those that
+/// follow it are next: what could not be left out before it is likely to be needed still. The list is lent, so that it
+/// need not be given back at each exit.
 ///
 /// # Errors
 ///
 /// `Memory`: memory ran out.
 fn shorten(alloc: Global, script: &Script, list: &mut Listed) -> Result<(), Memory>
-    ensures { (moves : List Move) → IsStuckList script.now moves list.old → OnOk result (IsLeastOf script.now moves list.new.choices) }
+    ensures { (moves : List Move) → IsStuckList script.now moves list.old
+        → OnOk result (IsLeastOf script.now moves list.new.choices) }
 {
     let mut first = 0;
     while let Some(found) = shorter(alloc, script, list.steps.as_slice(), first)? {
@@ -179,14 +184,15 @@ fn shorten(alloc: Global, script: &Script, list: &mut Listed) -> Result<(), Memo
     Ok(())
 }
 
-/// Drives a cluster through a script by a policy, as `drive` does, and shrinks the run if it is stuck. It is if no client that has
-/// begun is enabled and nothing is under way, but some client waits. Clients that have not begun do not count.
+/// Drives a cluster through a script by a policy, as `drive` does, and shrinks the run if it is stuck. It is if no
+/// client that has begun is enabled and nothing is under way, but some client waits. Clients that have not begun do not
+/// count.
 ///
-/// One step after the other is left out, from the first one on. If it is of a client, the later steps of this client are left out,
-/// too. The others are done again in their order, each if it can be then, and after them the oldest choices of clients that have
-/// begun. If this run is stuck and has fewer steps, it takes the place of the one before, and the step that is at the same place now
-/// is the next to be left out. After the last step comes the first one again, until each step of one run was left out in vain. This
-/// does not mean that there is no shorter list.
+/// One step after the other is left out, from the first one on. If it is of a client, the later steps of this client
+/// are left out, too. The others are done again in their order, each if it can be then, and after them the oldest
+/// choices of clients that have begun. If this run is stuck and has fewer steps, it takes the place of the one before,
+/// and the step that is at the same place now is the next to be left out. After the last step comes the first one
+/// again, until each step of one run was left out in vain. This does not mean that there is no shorter list.
 ///
 /// For a run of n steps, at most n(n + 1) / 2 runs are made, each of at most n steps. It takes memory linear in n.
 ///

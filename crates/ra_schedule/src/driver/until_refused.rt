@@ -19,8 +19,9 @@ pub struct DrivenPart {
     pub refusal: Option<DriveError>,
 }
 
-/// Drives a cluster through a script, as [`drive`](crate::drive) does, until no choice is left or one is refused. Returns how many
-/// turns were made, what they led to, and why there was no further one. It costs what [`summarize`](crate::summarize) does.
+/// Drives a cluster through a script, as [`drive`](crate::drive) does, until no choice is left or one is refused.
+/// Returns how many turns were made, what they led to, and why there was no further one. It costs what
+/// [`summarize`](crate::summarize) does.
 ///
 /// # Errors
 ///

@@ -6,8 +6,8 @@ ghost use Rattle.ra_schedule.specs.LockSearch.{NoneBelow};
 use crate::{Op, Script};
 use ra_stamp::Name;
 
-/// An operation that locks a name while its client holds one that is not below it, by bytes. Clients that do so can wait
-/// for each other forever.
+/// An operation that locks a name while its client holds one that is not below it, by bytes. Clients that do so can
+/// wait for each other forever.
 #[derive(Clone, Copy)]
 pub struct OutOfOrder {
     /// The number of the client.
@@ -27,10 +27,10 @@ pub struct Unreleased {
     pub place: u64,
 }
 
-/// Returns where the order of names is first broken, or `None` if each client takes its names in ascending order: of the
-/// first client that locks a name while it holds one that is not below it, by bytes, the first operation that does so. If
-/// several of the names held then are not below, the result tells the one that was locked first. It does not allocate. The
-/// cost is, for each client, the number of its operations times that of the names that it holds at once.
+/// Returns where the order of names is first broken, or `None` if each client takes its names in ascending order: of
+/// the first client that locks a name while it holds one that is not below it, by bytes, the first operation that does
+/// so. If several of the names held then are not below, the result tells the one that was locked first. It does not
+/// allocate. The cost is, for each client, the number of its operations times that of the names that it holds at once.
 pub fn first_out_of_order(script: &Script) -> Option<OutOfOrder>
     ensures found { IsSome result ↔ IsOutOfOrder script.now }
     ensures first { IfSome result (λ found. IsFirstOutOfOrder script.now found) }
@@ -43,9 +43,9 @@ pub fn first_out_of_order(script: &Script) -> Option<OutOfOrder>
     None
 }
 
-/// Returns where a name is first kept, or `None` if each client gives its names back: of the first client that holds a name
-/// at its end, the first operation that locks a name that the client never unlocks. It does not allocate. The cost is, for
-/// each client, the number of its operations times that of the names that it holds at once.
+/// Returns where a name is first kept, or `None` if each client gives its names back: of the first client that holds a
+/// name at its end, the first operation that locks a name that the client never unlocks. It does not allocate. The cost
+/// is, for each client, the number of its operations times that of the names that it holds at once.
 pub fn first_unreleased(script: &Script) -> Option<Unreleased>
     ensures found { IsSome result ↔ IsUnreleased script.now }
     ensures first { IfSome result (λ found. IsFirstUnreleased script.now found) }
@@ -58,8 +58,8 @@ pub fn first_unreleased(script: &Script) -> Option<Unreleased>
     None
 }
 
-/// Returns whether the client with this number has an operation at this place, counted from 0, that locks a name that it
-/// never unlocks. It does not allocate. The cost is the number of operations from there to the unlock.
+/// Returns whether the client with this number has an operation at this place, counted from 0, that locks a name that
+/// it never unlocks. It does not allocate. The cost is the number of operations from there to the unlock.
 pub fn is_unreleased(script: &Script, client: u32, place: u64) -> bool
     ensures { IsTrue result ↔ IsOf (λ ops. NeverUnlocks ops place) script.now client }
 {
@@ -110,11 +110,12 @@ fn unreleased_of(script: &Script, client: u32) -> Option<Unreleased>
     None
 }
 
-/// Returns the first place, before the end, of an operation that locks a name that is not above the one that was locked at
-/// the place `since` and is still held.
+/// Returns the first place, before the end, of an operation that locks a name that is not above the one that was locked
+/// at the place `since` and is still held.
 fn locks_below(ops: &[Op], since: usize, end: usize) -> Option<usize>
     requires { end ≤ length ops.now }
-    ensures some { IfSome result (λ place. (place < end) × LocksBelow ops.now since place × NoneBelow ops.now since place) }
+    ensures some { IfSome result
+        (λ place. (place < end) × LocksBelow ops.now since place × NoneBelow ops.now since place) }
     ensures none { IsNone result → NoneBelow ops.now since end }
 {
     let held = locked_at(ops, since)?;

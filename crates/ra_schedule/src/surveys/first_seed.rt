@@ -30,8 +30,9 @@ fn is_end(ending: Ending, outcome: SeedOutcome) -> bool
     }
 }
 
-/// Looks for the least seed of a range by which a script comes to an end by chance, with faults or without, within `limit` turns. The
-/// observer learns of each seed up to that one. It costs what [`summarize`](crate::summarize) costs, for each of them.
+/// Looks for the least seed of a range by which a script comes to an end by chance, with faults or without, within
+/// `limit` turns. The observer learns of each seed up to that one. It costs what [`summarize`](crate::summarize) costs,
+/// for each of them.
 ///
 /// # Errors
 ///
@@ -46,7 +47,8 @@ pub fn first_seed<O: Observer>(
     observer: &mut O,
 ) -> Result<Option<u64>, Memory>
     ensures ok { IfOk result (IsFirstSeed script.now faults limit ending seeds.first seeds.last) }
-    ensures told { IfOk result (λ found. TellsSeeds script.now faults limit seeds.first (tried seeds.first seeds.last found)
+    ensures told { IfOk result
+        (λ found. TellsSeeds script.now faults limit seeds.first (tried seeds.first seeds.last found)
         (O.told observer.old) (O.told observer.new)) }
     ensures err { OnErr result (TellsSomeSeeds script.now faults limit seeds.first seeds.last
         (O.told observer.old) (O.told observer.new)) }

@@ -99,7 +99,8 @@ pub fn no_survey() -> Survey
 
 /// Counts the outcome of one more seed, the one after those that were counted.
 pub fn with_outcome(survey: Survey, seed: u64, outcome: SeedOutcome) -> Survey
-    requires { (first : ℕ) × (outcomes : List SeedOutcome) × Tallies first outcomes survey × (first + length outcomes ≡ seed) }
+    requires { (first : ℕ) × (outcomes : List SeedOutcome) × Tallies first outcomes survey
+        × (first + length outcomes ≡ seed) }
     ensures { (first : ℕ) (outcomes : List SeedOutcome) → Tallies first outcomes survey → first + length outcomes ≡ seed
         → Tallies first (outcomes ++ outcome ∷ []) result }
 {

@@ -13,19 +13,19 @@ use ra_schedule::{ChoicesError, Ending, Faults, Observer, Script, SeedRange, cha
 use ra_text::OutputKind;
 use std::alloc::Global;
 
-/// Returns what is written in a format of the run of a script by the least seed of a range by which it comes to an end by chance, with
-/// faults or without, each in at most 16,777,216 turns. It is `None` if no seed brings the script to that end. The observer learns of each
-/// seed that is tried, the last of which made the run. The cost is that of the runs up to that one, and for it
-/// what [`perform_as`](crate::perform_as) says of the format.
+/// Returns what is written in a format of the run of a script by the least seed of a range by which it comes to an end
+/// by chance, with faults or without, each in at most 16,777,216 turns. It is `None` if no seed brings the script to
+/// that end. The observer learns of each seed that is tried, the last of which made the run. The cost is that of the
+/// runs up to that one, and for it what [`perform_as`](crate::perform_as) says of the format.
 ///
 /// # Errors
 ///
 /// The first that holds, except that `Memory` may come before the other:
 ///
-/// 1. `Choice`: the choices are to be written, and a message is repeated, for which there is no word. The observer learned of each seed
-///    up to that of the run.
-/// 2. `Memory`: memory ran out at some seed, and the observer learned of those before it; or for the text, and the observer learned of
-///    each seed up to that of the run.
+/// 1. `Choice`: the choices are to be written, and a message is repeated, for which there is no word. The observer
+///    learned of each seed up to that of the run.
+/// 2. `Memory`: memory ran out at some seed, and the observer learned of those before it; or for the text, and the
+///    observer learned of each seed up to that of the run.
 pub fn find_run<O: Observer>(
     alloc: Global,
     script: &Script,
@@ -40,7 +40,8 @@ pub fn find_run<O: Observer>(
         (λ printed. IsFirstRun format faults ending seeds.first seeds.last input (string_bytes printed.text) printed.finished)) }
     ensures unwritten { (input : List ℕ) → script_of input ≡ Ok script.now → IsErrOf result ChoicesError.Choice
         → IsFirstUnwritten format faults ending seeds.first seeds.last input }
-    ensures told { OnOk result ((found : Option ℕ) × IsFirstSeed script.now faults turn_limit ending seeds.first seeds.last found
+    ensures told { OnOk result ((found : Option ℕ)
+        × IsFirstSeed script.now faults turn_limit ending seeds.first seeds.last found
         × TellsSeeds script.now faults turn_limit seeds.first (tried seeds.first seeds.last found)
         (O.told observer.old) (O.told observer.new)) }
     ensures choice { IsErrOf result ChoicesError.Choice → (seed : ℕ)
@@ -66,7 +67,8 @@ pub fn find_run<O: Observer>(
     }
 }
 
-/// Returns the same faults, since the prover takes a value of another crate that is passed on as gone. It does not allocate.
+/// Returns the same faults, since the prover takes a value of another crate that is passed on as gone. It does not
+/// allocate.
 fn copy_of(faults: &Option<Faults>) -> Option<Faults>
     ensures { result ≡ faults.now }
 {

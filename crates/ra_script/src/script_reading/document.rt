@@ -145,8 +145,8 @@ fn clients_of<'a>(alloc: Global, tables: &'a Array) -> Result<Vec<ClientRef<'a>>
     Ok(clients)
 }
 
-/// Returns the document of a tree that has the keys `nodes`, an integer, and `client`, an array of clients' tables, and no
-/// other, in time linear in the number of clients and operations.
+/// Returns the document of a tree that has the keys `nodes`, an integer, and `client`, an array of clients' tables, and
+/// no other, in time linear in the number of clients and operations.
 ///
 /// # Errors
 ///

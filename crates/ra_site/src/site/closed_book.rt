@@ -1,5 +1,5 @@
 //! What is returned for the book of a site that is closed.
-ghost use Rattle.std.specs.Prelude.{◌≤◌, IsTrue};
+ghost use Rattle.std.specs.Prelude.{◌≤◌, ◌↔◌, IsTrue};
 ghost use Rattle.ra_stamp.specs.NodeId.{IsNodeNumber};
 ghost use Rattle.ra_site.specs.Sites.{IsWholeBookOf};
 
@@ -9,7 +9,7 @@ use std::alloc::Global;
 
 /// Returns whether a book is whole, and that of this node, of this many nodes, from this start.
 pub fn is_whole_of(book: &Book, me: NodeId, nodes: u16, start: u64) -> bool
-    ensures { IsTrue result → IsWholeBookOf me nodes start book.now }
+    ensures { IsTrue result ↔ IsWholeBookOf me nodes start book.now }
 {
     book.me() == me && book.nodes() == nodes && book.start() == start && book.is_whole()
 }

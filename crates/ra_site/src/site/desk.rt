@@ -1,11 +1,15 @@
 //! What is under the lock of a site: the book, and the clients that wait.
-ghost use Rattle.std.specs.Prelude.{◌≡◌, ◌≢◌, ◌↔◌, ◌⊎◌, ◌<◌, false, [], All, Contains, IfOk, IfSome, IsErrOf, OnErr, OnOk, vec_len, vec_capacity};
+ghost use Rattle.std.specs.Prelude.{◌≡◌, ◌≢◌, ◌↔◌, ◌⊎◌, ◌<◌, false, [], List, All, Contains, IfOk, IfSome, IsErrOf, OnErr, OnOk, vec_len, vec_capacity};
 ghost use Rattle.std.specs.Option.{ForSome};
 ghost use Rattle.ra_frame.specs.Fits.{Fits};
 ghost use Rattle.ra_book.specs.History.{clock_of};
-ghost use Rattle.ra_book.specs.Book.{with_all_taken, IsFirst, Loses};
+ghost use Rattle.ra_book.specs.Book.{with_all_taken, Adds, IsFirst, Loses};
+ghost use Rattle.ra_book.specs.declared.book.event.BookKind.TheVariants.{Asked, Gave, Cancelled, Forgot};
+ghost use Rattle.ra_book.specs.Keeping.{RefusesAsk, RefusesLeave, RefusesCancel};
+ghost use Rattle.ra_book.specs.declared.error.BookError.{BookError};
 ghost use Rattle.ra_book.specs.declared.book.grant.Grant as granted;
 ghost use Rattle.ra_stamp.specs.declared.entry.Mark as mark;
+ghost use Rattle.ra_site.specs.declared.site.SiteError as site;
 ghost use Rattle.ra_site.specs.ClientGrant.{Gives, WasGiven};
 ghost use Rattle.ra_site.specs.Handing.{IsAllLeft, OnlyTurnOrMemory};
 ghost use Rattle.ra_site.specs.Losses.{lost_frames};
@@ -32,18 +36,21 @@ pub struct Waiter {
     pub ticket: SharedTicket,
 }
 
-/// What a call made of the book: the frames to send, and the client that it let in, if there is one.
+/// What a call made of the book: the frames to send, the client that it let in and the one that gave up, if there are
+/// such.
 #[derive(Drop)]
 pub struct Stepped {
     /// The frames to send.
     pub frames: Frames,
     /// The client to tell of a grant.
     pub told: Option<(SharedTicket, Grant)>,
+    /// The client to tell that it gave up.
+    pub given_up: Option<SharedTicket>,
     ghost fit: { All Fits frames.items },
     ghost given: { ForSome told (λ t. WasGiven t.1) },
 }
 
-/// A book, and the clients of its node whose requests are neither granted nor stopped.
+/// A book, and the clients of its node whose requests are neither granted nor given up nor stopped.
 #[derive(Drop)]
 pub struct Desk {
     /// The book.
@@ -62,8 +69,8 @@ pub struct Handed {
     pub after: u64,
     /// The events since the round before.
     pub events: Events,
-    /// Those of the frames sent since the round before that the post refused, in order of sending. Each frame was tried by now,
-    /// so the others were not lost.
+    /// Those of the frames sent since the round before that the post refused, in order of sending. Each frame was tried
+    /// by now, so the others were not lost.
     pub lost: Vec<Frame>,
 }
 
@@ -79,8 +86,8 @@ impl Desk {
         }
     }
 
-    /// Asks the gate of this node, and then a client asks for a name. Its thread is told by this ticket when the client is let in, at
-    /// once or later, or when the node is stopped.
+    /// Asks the gate of this node, and then a client asks for a name. Its thread is told by this ticket when the client
+    /// is let in, at once or later, or when the node is stopped.
     ///
     /// # Errors
     ///
@@ -96,7 +103,14 @@ impl Desk {
         request: &Request,
         ticket: Option<&SharedTicket>,
     ) -> Result<Stepped, SiteError>
-        ensures given { IfOk result (λ stepped. IfSome stepped.told (λ told. Gives self.old.book self.new.book told.1)) }
+        ensures made { IfOk result
+            (λ stepped. (marks : List mark.Mark) × Adds self.old.book (Asked request.now.client request.now.name request.now.mode) stepped.frames.items marks
+            self.new.book) }
+        ensures given { IfOk result
+            (λ stepped. IfSome stepped.told (λ told. Gives self.old.book self.new.book told.1)) }
+        ensures err { OnErr result (self.new.book ≡ self.old.book) }
+        ensures refused { (why : BookError) → IsErrOf result (site.SiteError.Refused why)
+            → RefusesAsk self.old.book request.now.client request.now.name request.now.mode why }
     {
         if !gate.step(node) {
             return Err(SiteError::Stopped(Stop::Gate));
@@ -112,10 +126,11 @@ impl Desk {
             .book
             .ask(alloc, request.client, request.name, request.mode)?;
         self.waiters.push_reserved(waiter);
-        Ok(self.stepped(posted))
+        Ok(self.stepped(posted, None))
     }
 
-    /// Makes room for one more client that waits, and returns that client, or `None` if there is no memory or no ticket.
+    /// Makes room for one more client that waits, and returns that client, or `None` if there is no memory or no
+    /// ticket.
     fn waiter(&mut self, request: &Request, ticket: Option<&SharedTicket>) -> Option<Waiter>
         ensures room { IfSome result (λ _. vec_len self.new.waiters < vec_capacity self.new.waiters) }
         ensures book { self.new.book ≡ self.old.book }
@@ -146,13 +161,108 @@ impl Desk {
         client: u32,
         name: Name,
     ) -> Result<Stepped, SiteError>
-        ensures given { IfOk result (λ stepped. IfSome stepped.told (λ told. Gives self.old.book self.new.book told.1)) }
+        ensures made { IfOk result
+            (λ stepped. (marks : List mark.Mark) × Adds self.old.book (Gave client name) stepped.frames.items marks
+            self.new.book) }
+        ensures given { IfOk result
+            (λ stepped. IfSome stepped.told (λ told. Gives self.old.book self.new.book told.1)) }
+        ensures err { OnErr result (self.new.book ≡ self.old.book) }
+        ensures refused { (why : BookError) → IsErrOf result (site.SiteError.Refused why)
+            → RefusesLeave self.old.book client name why }
     {
         if !gate.step(node) {
             return Err(SiteError::Stopped(Stop::Gate));
         }
         let posted = self.book.leave(alloc, client, name)?;
-        Ok(self.stepped(posted))
+        Ok(self.stepped(posted, None))
+    }
+
+    /// Asks the gate of this node, and then a client that waits or is queued for a name gives it up. Its thread is to
+    /// be told of it.
+    ///
+    /// # Errors
+    ///
+    /// The first that holds:
+    ///
+    /// 1. `Stopped` with `Gate`: the gate answered `false`.
+    /// 2. `Refused`: the book refused it, as [`Book::cancel`] says.
+    pub fn cancel<G: Gate>(
+        &mut self,
+        alloc: Global,
+        node: NodeId,
+        gate: &G,
+        client: u32,
+        name: Name,
+    ) -> Result<Stepped, SiteError>
+        ensures made { IfOk result
+            (λ stepped. (marks : List mark.Mark) × Adds self.old.book (Cancelled client name) stepped.frames.items marks
+            self.new.book) }
+        ensures given { IfOk result
+            (λ stepped. IfSome stepped.told (λ told. Gives self.old.book self.new.book told.1)) }
+        ensures err { OnErr result (self.new.book ≡ self.old.book) }
+        ensures refused { (why : BookError) → IsErrOf result (site.SiteError.Refused why)
+            → RefusesCancel self.old.book client name why }
+    {
+        if !gate.step(node) {
+            return Err(SiteError::Stopped(Stop::Gate));
+        }
+        let posted = self.book.cancel(alloc, client, name)?;
+        let given_up = self.take(client, &name);
+        Ok(self.stepped(posted, given_up))
+    }
+
+    /// Does what `cancel` does for the client of this request, if that still waits by this ticket. A later request of the
+    /// same client for the same name is not touched.
+    ///
+    /// # Errors
+    ///
+    /// The first that holds:
+    ///
+    /// 1. `Refused` with `NotWaiting`: it waits by this ticket no more. The outcome is told by the ticket.
+    /// 2. Those of `cancel`.
+    pub fn give_up<G: Gate>(
+        &mut self,
+        alloc: Global,
+        node: NodeId,
+        gate: &G,
+        request: &Request,
+        ticket: &SharedTicket,
+    ) -> Result<Stepped, SiteError>
+        ensures made { IfOk result
+            (λ stepped. (marks : List mark.Mark)
+            × Adds self.old.book (Cancelled request.now.client request.now.name) stepped.frames.items marks
+            self.new.book) }
+        ensures given { IfOk result
+            (λ stepped. IfSome stepped.told (λ told. Gives self.old.book self.new.book told.1)) }
+        ensures err { OnErr result (self.new.book ≡ self.old.book) }
+    {
+        if ticket.is_taken() {
+            return Err(SiteError::Refused(BookError::NotWaiting));
+        }
+        self.cancel(alloc, node, gate, request.client, request.name)
+    }
+
+    /// Asks the gate of this node, and then the node forgets names.
+    ///
+    /// # Errors
+    ///
+    /// The first that holds:
+    ///
+    /// 1. `Stopped` with `Gate`: the gate answered `false`.
+    /// 2. `Refused`: the book refused it, as [`Book::forget`] says.
+    pub fn forget<G: Gate>(
+        &mut self,
+        alloc: Global,
+        node: NodeId,
+        gate: &G,
+    ) -> Result<(), SiteError>
+        ensures { OnOk result (Adds self.old.book Forgot [] [] self.new.book) }
+    {
+        if !gate.step(node) {
+            return Err(SiteError::Stopped(Stop::Gate));
+        }
+        self.book.forget(alloc)?;
+        Ok(())
     }
 
     /// Asks the gate of this node, and then the bytes of a frame come.
@@ -170,13 +280,14 @@ impl Desk {
         gate: &G,
         bytes: &[u8],
     ) -> Result<Stepped, SiteError>
-        ensures given { IfOk result (λ stepped. IfSome stepped.told (λ told. Gives self.old.book self.new.book told.1)) }
+        ensures given { IfOk result
+            (λ stepped. IfSome stepped.told (λ told. Gives self.old.book self.new.book told.1)) }
     {
         if !gate.step(node) {
             return Err(SiteError::Stopped(Stop::Gate));
         }
         let posted = self.book.receive(alloc, bytes)?;
-        Ok(self.stepped(posted))
+        Ok(self.stepped(posted, None))
     }
 
     /// Hands the book frames, and asks the gate of this node before each. Puts the result of each into the list.
@@ -202,8 +313,8 @@ impl Desk {
         Ok(())
     }
 
-    /// Gives the book a fault, if it has none. Returns the cause that the book has then, and the clients that waited. They
-    /// are to be told of it.
+    /// Gives the book a fault, if it has none. Returns the cause that the book has then, and the clients that waited.
+    /// They are to be told of it.
     pub fn fail(&mut self, alloc: Global, stop: Stop) -> (Stop, Vec<Waiter>) {
         self.book.fail(stop);
         let cause = self.book.fault().unwrap_or(stop);
@@ -219,16 +330,17 @@ impl Desk {
         let _ = self.book.mark_lost(frame);
     }
 
-    /// Hands over the events of this node after one with the clock `after`, or from its first one on if `after` is 0, and those of the
-    /// frames sent since the round before that are flagged lost. Unless there may be one, that takes a time that does not grow
-    /// with the history. All frames leave the book, too; they are returned, so that they need not be dropped under the lock.
+    /// Hands over the events of this node after one with the clock `after`, or from its first one on if `after` is 0,
+    /// and those of the frames sent since the round before that are flagged lost. Unless there may be one, that takes a
+    /// time that does not grow with the history. All frames leave the book, too; they are returned, so that they need
+    /// not be dropped under the lock.
     ///
     /// # Errors
     ///
     /// The first that holds, and the book is as before:
     ///
-    /// 1. `OutOfTurn`: the book is that of another node, or `after` is not the clock of the last event that was handed over, or 0
-    ///    before the first.
+    /// 1. `OutOfTurn`: the book is that of another node, or `after` is not the clock of the last event that was handed
+    ///    over, or 0 before the first.
     /// 2. `Memory`: there is no room for the lost frames, or for what the leaves of the node's clients will need.
     pub fn hand_over(
         &mut self,
@@ -237,7 +349,8 @@ impl Desk {
         after: u64,
     ) -> Result<(Handed, Vec<Sent>), TakeError>
         ensures after { IfOk result (λ made. made.0.after ≡ after) }
-        ensures handed { IfOk result (λ made. IsAllLeft self.old.book node after made.0.events.items made.0.lost.items) }
+        ensures handed { IfOk result
+            (λ made. IsAllLeft self.old.book node after made.0.events.items made.0.lost.items) }
         // So nothing is handed over twice.
         ensures taken { OnOk result (self.new.book ≡ with_all_taken self.old.book) }
         ensures out_of_turn { IsErrOf result TakeError.OutOfTurn
@@ -259,8 +372,8 @@ impl Desk {
         Ok((handed, sent))
     }
 
-    /// Returns the frames of the book that are flagged lost, in order of sending. If there may be one, the cost is linear in the
-    /// number of its frames.
+    /// Returns the frames of the book that are flagged lost, in order of sending. If there may be one, the cost is
+    /// linear in the number of its frames.
     ///
     /// # Errors
     ///
@@ -274,43 +387,58 @@ impl Desk {
         lost_of(alloc, &self.book)
     }
 
-    /// Returns what the last event of the book made. The client that it let in waits no more.
-    fn stepped(&mut self, posted: Posted) -> Stepped
+    /// Returns what the last event of the book made, with the client that gave up in it. The client that it let in
+    /// waits no more.
+    fn stepped(&mut self, posted: Posted, given_up: Option<SharedTicket>) -> Stepped
         requires fit { All Fits posted.frames.items }
-        requires given { (grant : granted.Grant) → Contains posted.marks.items (mark.Mark.Entered grant.entry) → WasGiven grant }
+        requires given { (grant : granted.Grant) → Contains posted.marks.items (mark.Mark.Entered grant.entry)
+            → WasGiven grant }
+        ensures frames { result.frames.items ≡ posted.frames.items }
         ensures entered { IfSome result.told (λ told. Contains posted.marks.items (mark.Mark.Entered told.1.entry)) }
         ensures book { self.new.book ≡ self.old.book }
     {
         let Posted { frames, marks } = posted;
         let told = match entry_let_in(marks.as_slice()) {
-            Some(entry) => self.take(entry),
+            Some(entry) => self.take_granted(entry),
             None => None,
         };
-        Stepped { frames, told }
+        Stepped {
+            frames,
+            told,
+            given_up,
+        }
     }
 
     /// Takes the client that waits for this request to be granted out of those that wait, if it is among them.
-    fn take(&mut self, entry: Entry) -> Option<(SharedTicket, Grant)>
+    fn take_granted(&mut self, entry: Entry) -> Option<(SharedTicket, Grant)>
         ensures entry { IfSome result (λ told. told.1.entry ≡ entry) }
         ensures book { self.new.book ≡ self.old.book }
     {
-        let place = self.place_of(&entry)?;
+        let ticket = self.take(entry.client, &entry.name)?;
+        Some((ticket, Grant { entry }))
+    }
+
+    /// Takes a client that waits for a name out of those that wait, if it is among them. Returns its ticket.
+    fn take(&mut self, client: u32, name: &Name) -> Option<SharedTicket>
+        ensures book { self.new.book ≡ self.old.book }
+    {
+        let place = self.place_of(client, name)?;
         let Waiter {
             client: _,
             name: _,
             ticket,
         } = self.waiters.swap_remove(place);
-        Some((ticket, Grant { entry }))
+        ticket.mark_taken();
+        Some(ticket)
     }
 
-    /// Returns the place of the client that waits for this request to be granted. The cost is linear in the number of
-    /// those that wait.
-    fn place_of(&self, entry: &Entry) -> Option<usize>
+    /// Returns the place of a client that waits for a name. The cost is linear in the number of those that wait.
+    fn place_of(&self, client: u32, name: &Name) -> Option<usize>
         ensures { IfSome result (λ place. place < vec_len self.now.waiters) }
     {
         for place in 0..self.waiters.len() {
             let waiter = &self.waiters[place];
-            if waiter.client == entry.client && waiter.name == entry.name {
+            if waiter.client == client && waiter.name == *name {
                 return Some(place);
             }
         }

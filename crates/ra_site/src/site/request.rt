@@ -1,5 +1,5 @@
 //! What a client asks of a site.
-ghost use Rattle.std.specs.Prelude.{IsTrue};
+ghost use Rattle.std.specs.Prelude.{◌↔◌, IsTrue};
 ghost use Rattle.ra_site.specs.ClientGrant.{IsGrantOf};
 
 use crate::Grant;
@@ -19,7 +19,7 @@ pub struct Request {
 impl Request {
     /// Returns whether this is a grant of the request at this node.
     pub fn is_granted_by(&self, node: NodeId, grant: &Grant) -> bool
-        ensures { IsTrue result → IsGrantOf node self.now.client self.now.name self.now.mode grant.now }
+        ensures { IsTrue result ↔ IsGrantOf node self.now.client self.now.name self.now.mode grant.now }
     {
         let entry = &grant.entry;
         entry.stamp.node == node

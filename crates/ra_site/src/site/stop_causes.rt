@@ -18,8 +18,10 @@ pub fn stop_of(refused: SiteError) -> Option<Stop>
         BookError::ClockFull => Some(Stop::Clock),
         BookError::Exhausted => Some(Stop::Exhausted),
         BookError::Frame(_) => Some(Stop::Frame),
-        BookError::Busy | BookError::NotHeld | BookError::WrongNode | BookError::Stranger => {
-            Some(Stop::Refused)
-        }
+        BookError::Busy
+        | BookError::NotHeld
+        | BookError::NotWaiting
+        | BookError::WrongNode
+        | BookError::Stranger => Some(Stop::Refused),
     }
 }

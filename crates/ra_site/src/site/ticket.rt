@@ -1,31 +1,37 @@
 //! Where a thread waits for the outcome of its request.
-ghost use Rattle.std.specs.Prelude.{IfOk};
+ghost use Rattle.std.specs.Prelude.{IfOk, IfSome};
 ghost use Rattle.std.specs.Result.{ForOk};
 ghost use Rattle.ra_site.specs.ClientGrant.{IsGrantOf, WasGiven};
 
 use crate::site::request::Request;
-use crate::{Grant, Stop};
+use crate::site::time_limit::TimeLimit;
+use crate::{Grant, SiteError};
 use ra_stamp::NodeId;
 use std::alloc::Global;
+use std::sync::atomic::{AtomicBool, Ordering};
 use std::sync::{Arc, Mutex, Wait};
 use std::thread::Parker;
+use std::time::Clock;
 
 /// A ticket that two threads share: the one that waits, and the one that tells it the outcome of its request.
 pub type SharedTicket = Arc<Ticket, Global>;
 
-/// The outcome of a request: its grant, or why its node was stopped before.
+/// The outcome of a request: its grant, or why it was not granted. Its node was stopped before, or its client gave it
+/// up.
 #[derive(Drop)]
 struct Outcome {
-    answer: Result<Grant, Stop>,
+    answer: Result<Grant, SiteError>,
     ghost given: { ForOk answer WasGiven },
 }
 
 /// Where the one thread that made a request waits. The thread that tells it the outcome of the request wakes it alone.
 #[derive(Drop)]
 pub struct Ticket {
-    /// The grant, or why the node was stopped before, once it is told.
+    /// The grant, or why there is none, once it is told.
     outcome: Mutex<Option<Outcome>>,
     waits: Parker,
+    /// Whether it was taken from the desk of its site, to be told its outcome. It is read and written under the desk's lock.
+    taken: AtomicBool,
 }
 
 impl Ticket {
@@ -34,12 +40,23 @@ impl Ticket {
         let ticket = Ticket {
             outcome: Mutex::new(None),
             waits: Parker::new(),
+            taken: AtomicBool::new(false),
         };
         Arc::new(alloc, ticket).ok()
     }
 
-    /// Tells the thread that waits the outcome of its request: its grant, or why its node was stopped before. Wakes it.
-    pub fn tell<R: Wait>(&self, rt: &R, answer: Result<Grant, Stop>)
+    /// Notes that it is taken from the desk of its site. The outcome is to be told then.
+    pub fn mark_taken(&self) {
+        self.taken.store(true, Ordering::SeqCst);
+    }
+
+    /// Returns whether it was taken from the desk of its site, so that its client does not wait by it any more.
+    pub fn is_taken(&self) -> bool {
+        self.taken.load(Ordering::SeqCst)
+    }
+
+    /// Tells the thread that waits the outcome of its request: its grant, or why there is none. Wakes it.
+    pub fn tell<R: Wait>(&self, rt: &R, answer: Result<Grant, SiteError>)
         requires { ForOk answer WasGiven }
     {
         *self.outcome.lock(rt) = Some(Outcome { answer });
@@ -48,24 +65,65 @@ impl Ticket {
     }
 
     /// Waits for the outcome of this request, which was made at this node, and returns it.
-    pub fn wait<R: Wait>(&self, rt: &R, node: NodeId, request: &Request) -> Result<Grant, Stop>
+    pub fn wait<R: Wait>(&self, rt: &R, node: NodeId, request: &Request) -> Result<Grant, SiteError>
         ensures grant { IfOk result (IsGrantOf node request.now.client request.now.name request.now.mode) }
         ensures given { IfOk result WasGiven }
     {
         for _ in rt.forever() {
-            // The lock is given back at once, so that nobody waits for it while this thread sleeps.
-            let outcome = self.outcome.lock(rt).take();
-            match outcome {
-                Some(Outcome { answer: Ok(grant) }) => {
-                    // It is always so, but no contract can say what another thread told.
-                    if request.is_granted_by(node, &grant) {
-                        return Ok(grant);
-                    }
-                }
-                Some(Outcome { answer: Err(stop) }) => return Err(stop),
+            match self.told(rt, node, request) {
+                Some(answer) => return answer,
                 None => self.waits.park(rt),
             }
         }
         unreachable!()
+    }
+
+    /// Waits for the outcome of this request, which was made at this node, and returns it, or `None` if the time is
+    /// over before it is told.
+    pub fn wait_within<R: Wait + Clock>(
+        &self,
+        rt: &R,
+        node: NodeId,
+        request: &Request,
+        limit: &TimeLimit,
+    ) -> Option<Result<Grant, SiteError>>
+        ensures grant { IfSome result (λ answer.
+            IfOk answer (IsGrantOf node request.now.client request.now.name request.now.mode)) }
+        ensures given { IfSome result (λ answer. IfOk answer WasGiven) }
+    {
+        for _ in rt.forever() {
+            let answer = self.told(rt, node, request);
+            if answer.is_some() {
+                return answer;
+            }
+            let Some(left) = limit.left(rt) else {
+                return None;
+            };
+            self.waits.park_timeout(rt, left);
+        }
+        unreachable!()
+    }
+
+    /// Returns the outcome of this request, if it was told.
+    fn told<R: Wait>(
+        &self,
+        rt: &R,
+        node: NodeId,
+        request: &Request,
+    ) -> Option<Result<Grant, SiteError>>
+        ensures grant { IfSome result (λ answer.
+            IfOk answer (IsGrantOf node request.now.client request.now.name request.now.mode)) }
+        ensures given { IfSome result (λ answer. IfOk answer WasGiven) }
+    {
+        // The lock is given back at once, so that nobody waits for it while this thread sleeps.
+        let outcome = self.outcome.lock(rt).take();
+        match outcome {
+            // It is always the request's, but no contract can say what another thread told.
+            Some(Outcome { answer: Ok(grant) }) if request.is_granted_by(node, &grant) => Some(Ok(
+                grant,
+            )),
+            Some(Outcome { answer: Err(why) }) => Some(Err(why)),
+            _ => None,
+        }
     }
 }

@@ -10,11 +10,13 @@ use std::io::Read;
 /// For how many bytes there is room before any is read, at most. A limit may be much larger than its input.
 const FIRST_ROOM: usize = 4096;
 
-/// The most bytes that a reader is asked for at once. A read for each byte took 3 % of the instructions of a simulation.
+/// The most bytes that a reader is asked for at once. A read for each byte took 3 % of the instructions of a
+/// simulation.
 const PIECE: usize = 512;
 
-/// Reads to the end, and at most `limit` bytes, in pieces of 512 bytes or fewer and no more than it returns. It first makes room
-/// for 4,096 bytes or fewer, and more as they come, however large the limit: the cost is linear in what is read.
+/// Reads to the end, and at most `limit` bytes, in pieces of 512 bytes or fewer and no more than it returns. It first
+/// makes room for 4,096 bytes or fewer, and more as they come, however large the limit: the cost is linear in what is
+/// read.
 ///
 /// # Errors
 ///

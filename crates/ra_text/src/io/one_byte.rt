@@ -10,7 +10,8 @@ use std::io::Read;
 ///
 /// `Read`: the reader failed. It is not tried again.
 pub fn next_byte<R: Read>(reader: &mut R) -> Result<Option<u8>, ReadFault>
-    ensures some { IfOk result (λ came. IfSome came (λ byte. Consumes (R.remaining reader.old) (R.remaining reader.new) (byte ∷ []))) }
+    ensures some { IfOk result
+        (λ came. IfSome came (λ byte. Consumes (R.remaining reader.old) (R.remaining reader.new) (byte ∷ []))) }
     ensures none { IfOk result (λ came. IsNone came
         → Consumes (R.remaining reader.old) (R.remaining reader.new) [] × IsAtEnd (R.remaining reader.new)) }
     ensures err { IfErr result (λ fault. fault ≡ ReadFault.Read) }

@@ -5,8 +5,8 @@ ghost use Rattle.std.specs.Io.KnownBytes.{Consumes, IsAtEnd, Keeps};
 use crate::ReadFault;
 use std::io::Read;
 
-/// A reader, and whether it failed. Only this file asks the reader, so that a function that reads from a source can't ask it
-/// again once it failed.
+/// A reader, and whether it failed. Only this file asks the reader, so that a function that reads from a source can't
+/// ask it again once it failed.
 #[derive(Drop)]
 pub struct Source<'a, R> {
     reader: &'a mut R,
@@ -26,7 +26,8 @@ impl<'a, R: Read> Source<'a, R> {
         }
     }
 
-    /// Reads the next bytes into a buffer, which is not empty, and returns how many came, or 0 at the end. It does not allocate.
+    /// Reads the next bytes into a buffer, which is not empty, and returns how many came, or 0 at the end. It does not
+    /// allocate.
     ///
     /// # Errors
     ///

@@ -11,10 +11,10 @@ ghost use Rattle.ra_trace.specs.NextLine.{EndsText};
 ghost use Rattle.ra_trace.specs.Reading.{Answers};
 
 use crate::checker::{Checker, Judgement};
+use crate::line::Line;
 use crate::line_source::{ByBytes, FromBuffer, LineRoom, LineSource};
 use crate::text_limits::MAX_TEXT;
 use crate::{Cause, TraceError, Verdict};
-use ra_stamp::Mark;
 use ra_text::next_byte;
 use std::alloc::Global;
 use std::io::{BufRead, Read};
@@ -25,8 +25,8 @@ const NOT_OPENED: Verdict = Verdict::Invalid {
     cause: Cause::Line,
 };
 
-/// Returns the verdict after a right last line, for which it reads one byte. A line after it would have this number, and the text may
-/// still have `left` bytes.
+/// Returns the verdict after a right last line, for which it reads one byte. A line after it would have this number,
+/// and the text may still have `left` bytes.
 ///
 /// # Errors
 ///
@@ -53,8 +53,8 @@ fn ending<R: Read>(
     }
 }
 
-/// Takes the first line, and answers the checker after it, or `None` if none comes that may begin a trace. `taken` becomes the
-/// number of its bytes.
+/// Takes the first line, and answers the checker after it, or `None` if none comes that may begin a trace. `taken`
+/// becomes the number of its bytes.
 ///
 /// # Errors
 ///
@@ -79,8 +79,8 @@ fn take_first<R: Read, S: LineSource<R>>(
     }
 }
 
-/// Reads the next line, has the checker take it, and says what it is. `taken` becomes the number of its bytes. The text may still
-/// have `left` bytes.
+/// Reads the next line, has the checker take it, and says what it is. `taken` becomes the number of its bytes. The text
+/// may still have `left` bytes.
 ///
 /// # Errors
 ///
@@ -97,7 +97,8 @@ fn take_next<R: Read, S: LineSource<R>>(
         → IsAlong limit left old (R.remaining reader.old) checker.old number
         → Turns limit left old (R.remaining reader.new) checker.new number taken.new result }
     ensures some { IfOk result (λ next. SomeTaken left taken.new next) }
-    ensures due { IfOk result (λ next. (cause : Cause) → next ≡ Judgement.Wrong cause → HasSameDue checker.old checker.new) }
+    ensures due { IfOk result
+        (λ next. (cause : Cause) → next ≡ Judgement.Wrong cause → HasSameDue checker.old checker.new) }
 {
     match S::next_line(reader, room, taken, left) {
         Ok(()) => {}
@@ -109,8 +110,8 @@ fn take_next<R: Read, S: LineSource<R>>(
     }
 }
 
-/// Returns the verdict of a text whose first line has this many bytes, from the checker after that line. If a line is wrong for its
-/// marks, `due` becomes the mark that was due there.
+/// Returns the verdict of a text whose first line has this many bytes, from the checker after that line. If a line is
+/// wrong for its sends or its marks, `due` becomes the line that was due there.
 ///
 /// # Errors
 ///
@@ -121,7 +122,7 @@ fn verdict_after<R: Read, S: LineSource<R>>(
     first: usize,
     checker: &mut Checker,
     limit: usize,
-    due: &mut Option<Mark>,
+    due: &mut Option<Line>,
 ) -> Result<Verdict, TraceError>
     requires most { limit ≤ 16777216 }
     requires within { first ≤ limit }
@@ -142,7 +143,7 @@ fn verdict_after<R: Read, S: LineSource<R>>(
             Err(fault) => return Err(fault),
         };
         if let Judgement::Wrong(cause) = next {
-            *due = checker.marks.at(checker.come);
+            *due = checker.next_due();
             return Ok(Verdict::Invalid {
                 line: number,
                 cause,
@@ -156,16 +157,17 @@ fn verdict_after<R: Read, S: LineSource<R>>(
     }
 }
 
-/// Checks the text of a trace of either version. Returns that it is the trace of a run, with the counts of requests and
-/// messages, or which line is the first wrong one, and why. In version 1, a line with a node above 16, with a mode other than
-/// `S` and `X`, or of a repeat is wrong.
+/// Checks the text of a trace of any version. Returns that it is the trace of a run, with the counts of requests and
+/// messages, or which line is the first wrong one, and why. In version 1, a line with a node above 16, with a mode
+/// other than `S` and `X`, or of a repeat is wrong. Only version 3 has lines of cancels, withdrawals and forgetting,
+/// and lines of sends if its first line says so.
 ///
 /// It goes line by line, makes each step in a world of its own and each mark in a lock table, and believes neither. The
-/// verdict comes at the first wrong line. Nothing is read after its line feed or its 128th byte, since each line is shorter;
-/// after the last line of a trace, one byte is read. It keeps no more of the text than the present line. It reads at most
-/// `limit + 1` bytes, each by a read of its own, so a reader with a buffer is best; a byte past the limit is not looked at.
-/// No read that failed is tried again. The cost is linear in what is read, plus that of the steps and the marks, as
-/// `World::step` and `Table` say. To read a line takes no memory.
+/// verdict comes at the first wrong line. Nothing is read after its line feed or its 128th byte, since each line is
+/// shorter; after the last line of a trace, one byte is read. It keeps no more of the text than the present line. It
+/// reads at most `limit + 1` bytes, each by a read of its own, so a reader with a buffer is best; a byte past the limit
+/// is not looked at. No read that failed is tried again. The cost is linear in what is read, plus that of the steps and
+/// the marks, as `World::step` and `Table` say. To read a line takes no memory.
 ///
 /// # Errors
 ///
@@ -209,9 +211,9 @@ pub fn check<R: Read>(alloc: Global, reader: &mut R) -> Result<Verdict, TraceErr
     check_within(alloc, reader, MAX_TEXT)
 }
 
-/// Checks the text of a trace as `check` does, and takes from the buffer of the reader exactly what `check` reads. It looks
-/// through the buffer up to a line feed, and takes no byte after it. It is the faster of the two. If the text ends before
-/// its last line, the reader is asked once more by a read of one byte, after it showed nothing.
+/// Checks the text of a trace as `check` does, and takes from the buffer of the reader exactly what `check` reads. It
+/// looks through the buffer up to a line feed, and takes no byte after it. It is the faster of the two. If the text
+/// ends before its last line, the reader is asked once more by a read of one byte, after it showed nothing.
 ///
 /// # Errors
 ///
@@ -222,9 +224,9 @@ pub fn check_buffered<B: BufRead>(alloc: Global, reader: &mut B) -> Result<Verdi
     check_buffered_with_due(alloc, reader, &mut None)
 }
 
-/// Checks the text of a trace as [`check_buffered`] does. If the verdict is that a line is wrong for its marks (`Cause::Marks`),
-/// `due` becomes the next mark of the step before, which should come in that line, or `None` if all of them came before. For any
-/// other result nothing is promised of `due`.
+/// Checks the text of a trace as [`check_buffered`] does. If the verdict is that a line is wrong for its sends or its
+/// marks (`Cause::Sends`, `Cause::Marks`), `due` becomes the line of the next message or mark of the step before, which
+/// should come there, or `None` if all of them came before. For any other result nothing is promised of `due`.
 ///
 /// # Errors
 ///
@@ -232,7 +234,7 @@ pub fn check_buffered<B: BufRead>(alloc: Global, reader: &mut B) -> Result<Verdi
 pub fn check_buffered_with_due<B: BufRead>(
     alloc: Global,
     reader: &mut B,
-    due: &mut Option<Mark>,
+    due: &mut Option<Line>,
 ) -> Result<Verdict, TraceError>
     ensures checks { ChecksTrace 16777216 (B.remaining reader.old) (B.remaining reader.new) result }
     ensures due { TellsDue (B.remaining reader.old) result due.new }

@@ -4,13 +4,15 @@ use thiserror::Error;
 /// Why a line of a trace is wrong.
 #[derive(Clone, Copy, Debug, PartialEq, Eq, Error)]
 pub enum Cause {
-    /// It has none of the forms of a line of the trace's version, each field in its range, or no line feed, or is where it may
-    /// not be: the first line is another one or comes again, or something is left after the last one.
+    /// It has none of the forms of a line of the trace's version, each field in its range, or no line feed, or is where
+    /// it may not be: the first line is another one or comes again, or something is left after the last one.
     Line,
     /// The world refuses an ask or a release.
     Refused,
     /// A message that is delivered, lost or repeated is not under way.
     NotUnderWay,
+    /// It is not the message that the step before sends next, or one that this step sends has not been told.
+    Sends,
     /// It is not the mark that comes next, or a mark of the step before has not come.
     Marks,
     /// The lock table refuses the mark.

@@ -35,7 +35,7 @@ pub fn mark_fits(mark: &Mark)
 }
 
 /// So the fields of a message are in their ranges, if it has a number.
-fn message_fits(message: &Message)
+pub fn message_fits(message: &Message)
     ensures { MessageFits message.now }
 {
     // For the proof: each field of a message is in its range.
@@ -56,8 +56,9 @@ pub fn step_fits(step: &Step)
             name,
             ..
         }
-        | Step::Leave { node, client, name } => {
-            // For the proof: each field of an ask or a leave is in its range.
+        | Step::Leave { node, client, name }
+        | Step::Cancel { node, client, name } => {
+            // For the proof: each field of a client's step is in its range.
             let _ = node.get();
             let _ = name.bytes();
             client_fits(*client);
@@ -65,6 +66,10 @@ pub fn step_fits(step: &Step)
         Step::Deliver(message) | Step::Lose(message) | Step::Repeat(message) => {
             // For the proof: each field of a message is in its range.
             message_fits(message);
+        }
+        Step::Forget { node } => {
+            // For the proof: so is the node.
+            let _ = node.get();
         }
     }
 }

@@ -8,7 +8,8 @@ ghost use Rattle.ra_trace.specs.Forms as spec;
 
 use ra_stamp::{Mode, Name, NodeId};
 
-/// Returns what is before and after the first occurrence of a byte in a text, or `None` if there is none. It does not allocate.
+/// Returns what is before and after the first occurrence of a byte in a text, or `None` if there is none. It does not
+/// allocate.
 #[inline(always)]
 pub fn split_once(text: &[u8], byte: u8) -> Option<(&[u8], &[u8])>
     ensures { MatchOption result (spec.cut byte text.now ≡ None)
@@ -22,7 +23,8 @@ pub fn split_once(text: &[u8], byte: u8) -> Option<(&[u8], &[u8])>
     None
 }
 
-/// Returns the number that digits write, or `None` if a byte is not a digit or the number does not fit. It does not allocate.
+/// Returns the number that digits write, or `None` if a byte is not a digit or the number does not fit. It does not
+/// allocate.
 #[inline(always)]
 fn value_of(digits: &[u8]) -> Option<u64>
     ensures some { IfSome result (λ value. (list_all is_ascii_digit digits.now ≡ true)
@@ -45,7 +47,8 @@ fn value_of(digits: &[u8]) -> Option<u64>
     Some(value)
 }
 
-/// Returns the number that these digits write, if there are some, no zero leads, and it is in a range, both ends included.
+/// Returns the number that these digits write, if there are some, no zero leads, and it is in a range, both ends
+/// included.
 #[tactic(auto, using(crate::proofs::Decimals::ranges))]
 #[inline(always)]
 fn number_if_within(low: u64, high: u64, digits: &[u8], number: u64) -> Option<u64>
@@ -64,7 +67,8 @@ fn number_if_within(low: u64, high: u64, digits: &[u8], number: u64) -> Option<u
     }
 }
 
-/// Returns the number of a decimal without leading zeros, if it is in a range, both ends included. It does not allocate.
+/// Returns the number of a decimal without leading zeros, if it is in a range, both ends included. It does not
+/// allocate.
 #[tactic(auto, using(crate::proofs::Decimals::ranges))]
 #[inline(always)]
 fn number_within(low: u64, high: u64, digits: &[u8]) -> Option<u64>
@@ -76,8 +80,8 @@ fn number_within(low: u64, high: u64, digits: &[u8]) -> Option<u64>
     number_if_within(low, high, digits, number)
 }
 
-/// Returns the number of a decimal before the first space, as `number_within` does, and what is after the space. It looks at each
-/// byte once, and does not allocate.
+/// Returns the number of a decimal before the first space, as `number_within` does, and what is after the space. It
+/// looks at each byte once, and does not allocate.
 #[inline(always)]
 pub fn number_before(low: u64, high: u64, text: &[u8]) -> Option<(u64, &[u8])>
     ensures value { MatchOption result (spec.before (spec.number_within low high) text.now ≡ None)

@@ -4,7 +4,7 @@ ghost use Rattle.std.specs.Prelude.{◌≡◌, ◌++◌, ℕ, List, Some, None, 
 ghost use Rattle.ra_trace.specs.Forms as spec;
 
 use crate::line::Line;
-use crate::line::fields::{mode_of, name_of, number_before, seq_of, split_once, start_of};
+use crate::line::fields::{mode_of, name_of, node_of, number_before, seq_of, split_once, start_of};
 use crate::line::version::Version;
 use ra_stamp::{Entry, Mark, Message, Mode, Name, NodeId, Stamp};
 use ra_world::Step;
@@ -73,9 +73,9 @@ fn name_mode_and_seq_of(text: &[u8]) -> Option<(Name, (Mode, u64))>
     Some((name, (mode, seq)))
 }
 
-/// Reads how many nodes there are, and the number that each resource begins with, in the first line of this version.
-fn first_of(version: Version, text: &[u8]) -> Option<Line>
-    ensures { result ≡ spec.first_in version text.now }
+/// Reads how many nodes there are, and the number that each resource begins with, in the first line of version 1 or 2.
+fn plain_first_of(version: Version, text: &[u8]) -> Option<Line>
+    ensures { result ≡ spec.first_as version text.now }
 {
     let Some(prefix) = node_before(text) else {
         return None;
@@ -89,6 +89,53 @@ fn first_of(version: Version, text: &[u8]) -> Option<Line>
         nodes,
         start,
     })
+}
+
+/// Reads the number that each resource begins with, at the end of the first line of version 3, and whether the word for
+/// sends comes after it.
+fn start_and_word_of(text: &[u8]) -> Option<(Version, u64)>
+    ensures { result ≡ spec.start_and_word (spec.cut 32 text.now) text.now }
+{
+    match split_once(text, b' ') {
+        None => match start_of(text) {
+            Some(start) => Some((Version::Three, start)),
+            None => None,
+        },
+        Some((start, b"sends")) => match start_of(start) {
+            Some(start) => Some((Version::ThreeWithSends, start)),
+            None => None,
+        },
+        Some(_) => None,
+    }
+}
+
+/// Reads how many nodes there are, and the number that each resource begins with, in the first line of version 3.
+fn third_of(text: &[u8]) -> Option<Line>
+    ensures { result ≡ spec.third_in text.now }
+{
+    let Some(prefix) = node_before(text) else {
+        return None;
+    };
+    let (nodes, rest) = prefix;
+    let Some((version, start)) = start_and_word_of(rest) else {
+        return None;
+    };
+    Some(Line::First {
+        version,
+        nodes,
+        start,
+    })
+}
+
+/// Reads the first line of this version, after the words that name it.
+fn first_of(version: Version, text: &[u8]) -> Option<Line>
+    ensures { result ≡ spec.first_in version text.now }
+{
+    match version {
+        Version::One => plain_first_of(Version::One, text),
+        Version::Two => plain_first_of(Version::Two, text),
+        Version::Three | Version::ThreeWithSends => third_of(text),
+    }
 }
 
 /// Reads node, client, name and mode.
@@ -138,12 +185,41 @@ fn leave_of(text: &[u8]) -> Option<Line>
     Some(Line::Stepped(Step::Leave { node, client, name }))
 }
 
+/// Reads node, client and name of a client that gives up.
+fn cancel_of(text: &[u8]) -> Option<Line>
+    ensures { result ≡ spec.read_as LineKind.Cancel text.now }
+{
+    let Some(prefix) = node_before(text) else {
+        return None;
+    };
+    let (node, rest) = prefix;
+    let Some((client, name)) = client_before(rest) else {
+        return None;
+    };
+    let Some(name) = name_of(name) else {
+        return None;
+    };
+    Some(Line::Stepped(Step::Cancel { node, client, name }))
+}
+
+/// Reads the node that forgets.
+fn forget_of(text: &[u8]) -> Option<Line>
+    ensures { result ≡ spec.read_as LineKind.Forget text.now }
+{
+    let Some(node) = node_of(text) else {
+        return None;
+    };
+    Some(Line::Stepped(Step::Forget { node }))
+}
+
 /// What becomes of a message.
 #[derive(Clone, Copy)]
 pub enum Fate {
     Delivered,
     Lost,
     Repeated,
+    /// A step sends it.
+    Told,
 }
 
 impl Fate {
@@ -156,6 +232,7 @@ impl Fate {
             Fate::Delivered => Line::Stepped(Step::Deliver(message)),
             Fate::Lost => Line::Stepped(Step::Lose(message)),
             Fate::Repeated => Line::Stepped(Step::Repeat(message)),
+            Fate::Told => Line::Sent(message),
         }
     }
 }
@@ -166,6 +243,7 @@ pub enum Change {
     Requested,
     Entered,
     Left,
+    Withdrawn,
 }
 
 impl Change {
@@ -177,6 +255,7 @@ impl Change {
             Change::Requested => Line::Marked(Mark::Requested(entry)),
             Change::Entered => Line::Marked(Mark::Entered(entry)),
             Change::Left => Line::Marked(Mark::Left(entry)),
+            Change::Withdrawn => Line::Marked(Mark::Withdrawn(entry)),
         }
     }
 }
@@ -190,9 +269,13 @@ pub enum LineKind {
     Ask,
     /// A client leaves.
     Leave,
-    /// A REQUEST is delivered, lost or repeated.
+    /// A client gives up.
+    Cancel,
+    /// A node forgets.
+    Forget,
+    /// A REQUEST is delivered, lost, repeated or sent.
     Request(Fate),
-    /// A REPLY is delivered, lost or repeated.
+    /// A REPLY is delivered, lost, repeated or sent.
     Reply(Fate),
     /// A mark of a request.
     Mark(Change),
@@ -229,8 +312,11 @@ const FIRST: &[Field] = &[Field::Nodes, Field::Start];
 /// The fields of an ask.
 const ASK: &[Field] = &[Field::Node, Field::Client, Field::Name, Field::Mode];
 
-/// The fields of a release.
+/// The fields of a release or a cancel.
 const LEAVE: &[Field] = &[Field::Node, Field::Client, Field::Name];
+
+/// The field of a node that forgets.
+const FORGET: &[Field] = &[Field::Node];
 
 /// The fields of a REQUEST.
 const REQUEST: &[Field] = &[Field::From, Field::To, Field::Name, Field::Mode, Field::Seq];
@@ -248,29 +334,37 @@ const MARK: &[Field] = &[
 ];
 
 impl LineKind {
-    /// Returns the words that begin such a line, with the space before its first field if it has one. It does not allocate.
+    /// Returns the words that begin such a line, with the space before its first field if it has one. It does not
+    /// allocate.
     pub fn words(self) -> &'static str
         ensures { (rest : List ℕ) → spec.line_in (result.now ++ rest) ≡ spec.read_as self rest }
     {
         match self {
             LineKind::First(Version::One) => "trace 1 ",
             LineKind::First(Version::Two) => "trace 2 ",
+            LineKind::First(Version::Three | Version::ThreeWithSends) => "trace 3 ",
             LineKind::Ask => "ask ",
             LineKind::Leave => "release ",
+            LineKind::Cancel => "cancel ",
+            LineKind::Forget => "forget ",
             LineKind::Request(Fate::Delivered) => "deliver request ",
             LineKind::Request(Fate::Lost) => "lose request ",
             LineKind::Request(Fate::Repeated) => "repeat request ",
+            LineKind::Request(Fate::Told) => "send request ",
             LineKind::Reply(Fate::Delivered) => "deliver reply ",
             LineKind::Reply(Fate::Lost) => "lose reply ",
             LineKind::Reply(Fate::Repeated) => "repeat reply ",
+            LineKind::Reply(Fate::Told) => "send reply ",
             LineKind::Mark(Change::Requested) => "request ",
             LineKind::Mark(Change::Entered) => "enter ",
             LineKind::Mark(Change::Left) => "leave ",
+            LineKind::Mark(Change::Withdrawn) => "withdraw ",
             LineKind::Last => "end",
         }
     }
 
-    /// Returns the fields that follow the words of such a line, in order, with one space between them. It does not allocate.
+    /// Returns the fields that follow the words of such a line, in order, with one space between them. It does not
+    /// allocate.
     pub fn fields(self) -> &'static [Field]
         ensures { result.now ≡ spec.fields_of self }
     {
@@ -278,6 +372,8 @@ impl LineKind {
             LineKind::First(_) => FIRST,
             LineKind::Ask => ASK,
             LineKind::Leave => LEAVE,
+            LineKind::Cancel => LEAVE,
+            LineKind::Forget => FORGET,
             LineKind::Request(_) => REQUEST,
             LineKind::Reply(_) => REPLY,
             LineKind::Mark(_) => MARK,
@@ -376,6 +472,8 @@ impl LineKind {
             LineKind::First(version) => *line = first_of(version, rest),
             LineKind::Ask => *line = ask_of(rest),
             LineKind::Leave => *line = leave_of(rest),
+            LineKind::Cancel => *line = cancel_of(rest),
+            LineKind::Forget => *line = forget_of(rest),
             LineKind::Request(fate) => read_request(fate, rest, line),
             LineKind::Reply(fate) => read_reply(fate, rest, line),
             LineKind::Mark(change) => read_mark(change, rest, line),
@@ -385,8 +483,9 @@ impl LineKind {
     }
 }
 
-/// Puts the line that a text with no line feed is into `line`, or `None` if it is not one. Whether its version allows it is not
-/// asked. It does not allocate, and the cost is linear in the text. A line is long to move, so it is made where it is needed.
+/// Puts the line that a text with no line feed is into `line`, or `None` if it is not one. Whether its version allows
+/// it is not asked. It does not allocate, and the cost is linear in the text. A line is long to move, so it is made
+/// where it is needed.
 ///
 /// No two forms of lines begin alike. Those of most lines come first.
 #[inline(always)]
@@ -429,7 +528,8 @@ fn read_line_without_mark(text: &[u8], line: &mut Option<Line>)
     *line = None;
 }
 
-/// Reads the line that a text is if it is a loss or a repeat, or the first or the last line of a trace.
+/// Reads the line that a text is, if it is a loss, a repeat, a line that only version 3 has, or the first or the last
+/// line of a trace.
 fn read_rare_line(text: &[u8], line: &mut Option<Line>)
     ensures { line.new ≡ spec.line_by (drop 7 spec.forms) text.now }
 {
@@ -445,18 +545,43 @@ fn read_rare_line(text: &[u8], line: &mut Option<Line>)
     if let Some(rest) = rest_after(b"repeat reply ", text) {
         return LineKind::Reply(Fate::Repeated).read(rest, line);
     }
+    read_third_line(text, line);
+}
+
+/// Reads the line that a text is if it is one that only version 3 has, or the first or the last line of a trace.
+fn read_third_line(text: &[u8], line: &mut Option<Line>)
+    ensures { line.new ≡ spec.line_by (drop 11 spec.forms) text.now }
+{
+    if let Some(rest) = rest_after(b"withdraw ", text) {
+        return LineKind::Mark(Change::Withdrawn).read(rest, line);
+    }
+    if let Some(rest) = rest_after(b"cancel ", text) {
+        return LineKind::Cancel.read(rest, line);
+    }
+    if let Some(rest) = rest_after(b"forget ", text) {
+        return LineKind::Forget.read(rest, line);
+    }
+    if let Some(rest) = rest_after(b"send request ", text) {
+        return LineKind::Request(Fate::Told).read(rest, line);
+    }
+    if let Some(rest) = rest_after(b"send reply ", text) {
+        return LineKind::Reply(Fate::Told).read(rest, line);
+    }
     read_end_line(text, line);
 }
 
 /// Reads the line that a text is if it is the first or the last line of a trace.
 fn read_end_line(text: &[u8], line: &mut Option<Line>)
-    ensures { line.new ≡ spec.line_by (drop 11 spec.forms) text.now }
+    ensures { line.new ≡ spec.line_by (drop 16 spec.forms) text.now }
 {
     if let Some(rest) = rest_after(b"trace 1 ", text) {
         return LineKind::First(Version::One).read(rest, line);
     }
     if let Some(rest) = rest_after(b"trace 2 ", text) {
         return LineKind::First(Version::Two).read(rest, line);
+    }
+    if let Some(rest) = rest_after(b"trace 3 ", text) {
+        return LineKind::First(Version::Three).read(rest, line);
     }
     if let Some(rest) = rest_after(b"end", text) {
         return LineKind::Last.read(rest, line);

@@ -26,8 +26,8 @@ pub enum LineEnd {
     Input,
 }
 
-/// Reads the bytes of a line that follow those that came, to its line feed, and until there are 128 of them. None of those that came
-/// is a line feed. A text may still have `left` bytes, with those that came. It does not allocate.
+/// Reads the bytes of a line that follow those that came, to its line feed, and until there are 128 of them. None of
+/// those that came is a line feed. A text may still have `left` bytes, with those that came. It does not allocate.
 ///
 /// # Errors
 ///
@@ -62,8 +62,8 @@ fn read_rest<R: Read>(
     Ok(LineEnd::Length)
 }
 
-/// Reads the next line, of which the bytes in `room` came, as [`LineSource::next_line`](crate::line_source::LineSource::next_line)
-/// says. Each byte that follows is read by itself.
+/// Reads the next line, of which the bytes in `room` came, as
+/// [`LineSource::next_line`](crate::line_source::LineSource::next_line) says. Each byte that follows is read by itself.
 ///
 /// # Errors
 ///

@@ -10,7 +10,7 @@ pub enum MarkCause {
     NodeBusy,
     /// A request, and its number is not above that of each entry granted so far on its name.
     NotAbove,
-    /// A grant of an entry that does not wait.
+    /// A grant or a withdrawal of an entry that does not wait.
     NotWaiting,
     /// A grant, and a conflicting entry on its name holds.
     Held,

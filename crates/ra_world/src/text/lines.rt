@@ -7,8 +7,8 @@ use ra_stamp::Memory;
 use ra_text::Draft;
 use std::alloc::Global;
 
-/// Returns the lines of a report: one for each mark, in order, and then those of the six totals. The cost is linear in
-/// the text.
+/// Returns the lines of a report: one for each mark, in order, and then those of the totals: six, and how many requests
+/// were withdrawn if any was. The cost is linear in the text.
 ///
 /// # Errors
 ///
@@ -27,5 +27,8 @@ pub fn report_text(alloc: Global, report: &Report) -> Result<String, Memory>
     text.push_total_line("lost", report.lost);
     text.push_total_line("waiting", report.waiting);
     text.push_total_line("queued", report.queued);
+    if report.withdrawn != 0 {
+        text.push_total_line("withdrawn", report.withdrawn);
+    }
     text.finish()
 }

@@ -6,7 +6,7 @@ use ra_stamp::Marks;
 /// What came of a run.
 #[derive(Debug, Drop)]
 pub struct Report {
-    /// The requests, grants and releases, in order.
+    /// The requests, grants, releases and withdrawals, in order.
     pub marks: Marks,
     /// How many messages were sent, copies not counted.
     pub sent: u128,
@@ -18,6 +18,8 @@ pub struct Report {
     pub lost: u128,
     /// How many copies of messages were put under way. It is not printed.
     pub repeated: u128,
+    /// How many requests were withdrawn: the marks Withdrawn.
+    pub withdrawn: u128,
     /// How many requests wait for their replies.
     pub waiting: u128,
     /// How many clients are queued at their nodes.
@@ -32,6 +34,7 @@ pub struct Figures {
     pub under_way: u128,
     pub lost: u128,
     pub repeated: u128,
+    pub withdrawn: u128,
     pub waiting: u128,
     pub queued: u128,
 }
@@ -48,6 +51,7 @@ impl Figures {
             under_way: self.under_way,
             lost: self.lost,
             repeated: self.repeated,
+            withdrawn: self.withdrawn,
             waiting: self.waiting,
             queued: self.queued,
         }

@@ -1,5 +1,5 @@
-//! The lines of a state: what the nodes know of names, the messages under way, and the requests on these names that wait and
-//! hold.
+//! The lines of a state: what the nodes know of names, the messages under way, and the requests on these names that
+//! wait and hold.
 ghost use Rattle.std.specs.Prelude.{◌≡◌, ◌++◌, codes, flat_map, length, string_bytes, IfOk};
 ghost use Rattle.ra_stamp.specs.NodeId.{IsNodeNumber};
 ghost use Rattle.ra_node.specs.Node.{resource_at};
@@ -47,8 +47,8 @@ fn push_use(text: &mut Draft, node: &Node, name: &Name)
     text.push_field("idle");
 }
 
-/// Adds the lines of the nodes whose REPLY is awaited, and of those whose REPLY is deferred. Without a request of its own, which
-/// is the rule, a node awaits and defers none, and no other node is looked at.
+/// Adds the lines of the nodes whose REPLY is awaited, and of those whose REPLY is deferred. Without a request of its
+/// own, which is the rule, a node awaits and defers none, and no other node is looked at.
 fn push_others(text: &mut Draft, nodes: NodeCount, me: NodeId, node: &Node, name: &Name)
     ensures { Adds text.old (spec.others_lines nodes me name.now (resource_at node.now name.now).state) text.new }
 {
@@ -89,10 +89,12 @@ fn push_queue(text: &mut Draft, me: NodeId, node: &Node, name: &Name)
     }
 }
 
-/// Adds the lines of names at all nodes: of each name its first line, those of other nodes, and those of queued clients.
+/// Adds the lines of names at all nodes: of each name its first line, those of other nodes, and those of queued
+/// clients.
 fn push_nodes(text: &mut Draft, nodes: &[Node], names: &[Name])
     requires { IsNodeNumber (length nodes.now) }
-    ensures { Adds text.old (spec.node_lines (length nodes.now) names.now (nodes_of nodes.now) (length nodes.now)) text.new }
+    ensures { Adds text.old (spec.node_lines (length nodes.now) names.now (nodes_of nodes.now)
+        (length nodes.now)) text.new }
 {
     let Some(count) = NodeCount::new(nodes.len() as u16) else {
         unreachable!()

@@ -1,4 +1,5 @@
-//! What comes of a step at its node. Room for what the node sends and marks is made first, so that the step can be kept.
+//! What comes of a step at its node. Room for what the node sends and marks is made first, so that the step can be
+//! kept.
 ghost use Rattle.std.specs.Prelude.{◌*◌, ◌≤◌, Contains};
 ghost use Rattle.ra_automaton.specs.State.{IsForNode};
 ghost use Rattle.ra_node.specs.Node.{IsConsistentNode};
@@ -75,6 +76,61 @@ pub fn leave_at<const KEEPS_MARKS: u8>(
         return Err(StepError::Memory);
     };
     let outcome = node.leave(alloc, client, *name)?;
+    kept.keep(step, &outcome);
+    Ok(outcome)
+}
+
+/// Has a client give up a name at its node, which sends at most this many messages, and keeps that as the step.
+///
+/// # Errors
+///
+/// The first that holds, and nothing has changed:
+///
+/// 1. `Node`: the node refuses (`NotWaiting`).
+/// 2. `Memory`: there is no room for what the step makes, or for one more step.
+pub fn cancel_at<const KEEPS_MARKS: u8>(
+    node: &mut Node,
+    kept: &mut KeptSteps<KEEPS_MARKS>,
+    alloc: Global,
+    sends: u64,
+    step: &Step,
+    client: u32,
+    name: &Name,
+) -> Result<Outcome, StepError>
+    requires consistent { IsConsistentNode node.old }
+    requires sends { 2 * node.old.nodes ≤ sends }
+    ensures { TriesAt step.now (event.Cancel client name.now) node.old kept.old result node.new kept.new }
+{
+    // The marks are Withdrawn, Requested and, if the node is alone, Entered.
+    let Ok(()) = kept.make_room(sends, 3) else {
+        // That the node refuses comes before that memory ran out.
+        if !node.is_kept_waiting(client, name) {
+            return Err(StepError::Node(NodeRefusal::NotWaiting));
+        }
+        return Err(StepError::Memory);
+    };
+    let outcome = node.cancel(alloc, client, *name)?;
+    kept.keep(step, &outcome);
+    Ok(outcome)
+}
+
+/// Has a node forget names, and keeps that as the step.
+///
+/// # Errors
+///
+/// `Memory`, and nothing has changed: no further step can be counted.
+pub fn forget_at<const KEEPS_MARKS: u8>(
+    node: &mut Node,
+    kept: &mut KeptSteps<KEEPS_MARKS>,
+    alloc: Global,
+    step: &Step,
+) -> Result<Outcome, StepError>
+    requires consistent { IsConsistentNode node.old }
+    ensures { TriesAt step.now event.Forget node.old kept.old result node.new kept.new }
+{
+    kept.make_room(0, 0)?;
+    node.forget();
+    let outcome = Outcome::nothing(alloc);
     kept.keep(step, &outcome);
     Ok(outcome)
 }

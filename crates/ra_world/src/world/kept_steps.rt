@@ -45,8 +45,9 @@ impl<const KEEPS_MARKS: u8> KeptSteps<KEEPS_MARKS> {
         self.log.reserve(marks)
     }
 
-    /// Makes room for what a message brings at its node: one message for a REQUEST, and one mark for a REPLY. Only if there
-    /// is no such room is the node asked whether the message brings anything, which costs one more look at its resource.
+    /// Makes room for what a message brings at its node: one message for a REQUEST, and one mark for a REPLY. Only if
+    /// there is no such room is the node asked whether the message brings anything, which costs one more look at its
+    /// resource.
     ///
     /// # Errors
     ///
@@ -102,8 +103,8 @@ impl<const KEEPS_MARKS: u8> KeptSteps<KEEPS_MARKS> {
         outcome
     }
 
-    /// Takes the first message that is equal to this one from those under way. If nothing was repeated there is no other,
-    /// and it is where it was found.
+    /// Takes the first message that is equal to this one from those under way. If nothing was repeated there is no
+    /// other, and it is where it was found.
     #[inline(always)]
     pub fn take(&mut self, found: Found, message: &Message)
         requires { Contains self.old.under_way.items message.now }

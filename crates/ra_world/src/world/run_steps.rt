@@ -9,8 +9,8 @@ ghost use Rattle.ra_world.specs.Refused.{IsRefusedAt, StopsBefore};
 use crate::{Report, RunError, Step, StepError, Steps, World};
 use std::alloc::Global;
 
-/// Makes a world of this many nodes, all of whose numbers begin at `start`, and steps it through a list of steps. The cost
-/// is that of the steps, each as `World::step` says, and linear in the number of nodes.
+/// Makes a world of this many nodes, all of whose numbers begin at `start`, and steps it through a list of steps. The
+/// cost is that of the steps, each as `World::step` says, and linear in the number of nodes.
 ///
 /// # Errors
 ///
@@ -29,8 +29,9 @@ pub fn run(alloc: Global, nodes: u16, start: u64, steps: &Steps) -> Result<Repor
     ensures bad_count { IsErrOf result RunError.BadCount ↔ (IsNodeNumber nodes → ⊥) }
     ensures refused { (place : ℕ) (cause : StepError) → IsErrOf result (RunError.Refused place cause)
         → IsNodeNumber nodes × IsRefusedAt nodes start steps.now.items place cause }
-    // `Memory` may come before a later step is refused. No clause of this call says after which steps: it may come before
-    // the first, so the empty prefix would meet such a clause. `step_through`, which sees the world, says it in full.
+    // `Memory` may come before a later step is refused. No clause of this call says after which steps: it may come
+    // before the first, so the empty prefix would meet such a clause. `step_through`, which sees the world, says it in
+    // full.
     ensures allowed { IsNodeNumber nodes → WorldRun nodes start steps.now.items
         → IsOkUnless result RunError.Memory }
 {

@@ -2,7 +2,7 @@
 ghost use Rattle.std.specs.Prelude.{◌≡◌, ◌+◌, ◌≤◌, ◌⊎◌, [], ◌∷◌, ◌++◌, length, OnOk, OnErr};
 ghost use Rattle.ra_stamp.specs.declared.entry.Mark.{Mark};
 ghost use Rattle.ra_world.specs.Traffic.{lost_in, repeated_in};
-ghost use Rattle.ra_world.specs.Quiet.{requests_in};
+ghost use Rattle.ra_world.specs.Quiet.{requests_in, withdrawn_in};
 
 use crate::Step;
 use ra_node::Outcome;
@@ -10,8 +10,8 @@ use ra_stamp::{GhostList, Mark, Marks, Memory, Sequence};
 use std::alloc::Global;
 use std::marker::Model;
 
-/// What came of the steps so far. The steps themselves are counted and not kept, and their marks are kept if `KEEPS_MARKS` is 1.
-/// Contracts see the moves, and the room for more marks.
+/// What came of the steps so far. The steps themselves are counted and not kept, and their marks are kept if
+/// `KEEPS_MARKS` is 1. Contracts see the moves, and the room for more marks.
 #[derive(Drop)]
 pub struct StepLog<const KEEPS_MARKS: u8> {
     /// How many steps there were.
@@ -26,6 +26,8 @@ pub struct StepLog<const KEEPS_MARKS: u8> {
     lost: u64,
     /// How many of the steps are repeats.
     repeated: u64,
+    /// How many of the marks of the steps are Withdrawn.
+    withdrawn: u128,
     /// Each step with what came of it, for proofs alone.
     made: GhostList<(Step, Outcome)>,
 }
@@ -41,6 +43,8 @@ pub struct Counts {
     pub lost: u64,
     /// How many copies of messages were put under way.
     pub repeated: u64,
+    /// How many requests were withdrawn.
+    pub withdrawn: u128,
 }
 
 impl<const KEEPS_MARKS: u8> Model for StepLog<KEEPS_MARKS> {
@@ -54,7 +58,7 @@ impl<const KEEPS_MARKS: u8> Model for StepLog<KEEPS_MARKS> {
     } };
 
     ghost invariant = { λ l.
-        AreCounted KEEPS_MARKS (moves_of l.made.items) l.steps l.marks.items l.sent l.requests l.lost l.repeated };
+        AreCounted KEEPS_MARKS (moves_of l.made.items) l.steps l.marks.items l.sent l.requests l.lost l.repeated l.withdrawn };
 }
 
 impl<const KEEPS_MARKS: u8> StepLog<KEEPS_MARKS> {
@@ -74,6 +78,7 @@ impl<const KEEPS_MARKS: u8> StepLog<KEEPS_MARKS> {
             requests: 0,
             lost: 0,
             repeated: 0,
+            withdrawn: 0,
             made: GhostList::new(),
         }
     }
@@ -92,12 +97,14 @@ impl<const KEEPS_MARKS: u8> StepLog<KEEPS_MARKS> {
         ensures requests { result.requests ≡ requests_in (marks_of self.now.moves) }
         ensures lost { result.lost ≡ length (lost_by self.now.moves) }
         ensures repeated { result.repeated ≡ length (repeated_by self.now.moves) }
+        ensures withdrawn { result.withdrawn ≡ withdrawn_in (marks_of self.now.moves) }
     {
         Counts {
             sent: self.sent,
             requests: self.requests,
             lost: self.lost,
             repeated: self.repeated,
+            withdrawn: self.withdrawn,
         }
     }
 
@@ -115,8 +122,8 @@ impl<const KEEPS_MARKS: u8> StepLog<KEEPS_MARKS> {
         self.marks
     }
 
-    /// Makes room for one step with this many marks. If the room has to grow, the cost is linear in the marks that are kept.
-    /// As the room doubles, that is amortized constant for each mark added.
+    /// Makes room for one step with this many marks. If the room has to grow, the cost is linear in the marks that are
+    /// kept. As the room doubles, that is amortized constant for each mark added.
     ///
     /// # Errors
     ///
@@ -145,7 +152,9 @@ impl<const KEEPS_MARKS: u8> StepLog<KEEPS_MARKS> {
         keep_marks::<KEEPS_MARKS>(&mut self.marks, outcome.marks.as_slice());
         // The counts fit: no list has 2^64 items, and there are no more losses, nor repeats, than steps.
         self.sent += u128::from(outcome.sends.len());
-        self.requests += u128::from(requests_of(outcome.marks.as_slice()));
+        let (requests, withdrawn) = changes_of(outcome.marks.as_slice());
+        self.requests += u128::from(requests);
+        self.withdrawn += u128::from(withdrawn);
         let (lost, repeated) = fates_of(step);
         self.lost += lost;
         self.repeated += repeated;
@@ -161,7 +170,11 @@ fn fates_of(step: &Step) -> (u64, u64)
     match step {
         Step::Lose(_) => (1, 0),
         Step::Repeat(_) => (0, 1),
-        Step::Ask { .. } | Step::Leave { .. } | Step::Deliver(_) => (0, 0),
+        Step::Ask { .. }
+        | Step::Leave { .. }
+        | Step::Cancel { .. }
+        | Step::Deliver(_)
+        | Step::Forget { .. } => (0, 0),
     }
 }
 
@@ -185,15 +198,19 @@ pub fn append<T: Copy>(list: &mut Sequence<T>, items: &[T])
     }
 }
 
-/// Returns how many of the marks are Requested.
-fn requests_of(marks: &[Mark]) -> u64
-    ensures { result ≡ requests_in marks.now }
+/// Returns how many of the marks are Requested, and how many are Withdrawn.
+fn changes_of(marks: &[Mark]) -> (u64, u64)
+    ensures requests { result.0 ≡ requests_in marks.now }
+    ensures withdrawn { result.1 ≡ withdrawn_in marks.now }
 {
     let mut requests = 0;
+    let mut withdrawn = 0;
     for mark in marks {
-        if let Mark::Requested(_) = mark {
-            requests += 1;
+        match mark {
+            Mark::Requested(_) => requests += 1,
+            Mark::Withdrawn(_) => withdrawn += 1,
+            _ => {}
         }
     }
-    requests
+    (requests, withdrawn)
 }

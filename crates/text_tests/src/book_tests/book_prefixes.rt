@@ -86,8 +86,8 @@ fn each_prefix_has_its_answers(rt: HostRuntime) {
     }
 }
 
-/// Ends the test if a reader that fails so after these bytes of the book is asked again, or if the answers to them are not
-/// written.
+/// Ends the test if a reader that fails so after these bytes of the book is asked again, or if the answers to them are
+/// not written.
 fn assert_unread(rt: &(impl Abort + AllocGlobal), bytes: &[u8], fault: ErrorKind) {
     let answers = if bytes.len() < FIRST {
         Vec::new(rt.alloc())

@@ -22,7 +22,8 @@ fn answered<B: BufRead, W: Write>(
     answer_book(alloc, reader, writer)
 }
 
-/// Ends the test if a writer that fails so after this many bytes of the answers is written to again, or has not taken them.
+/// Ends the test if a writer that fails so after this many bytes of the answers is written to again, or has not taken
+/// them.
 fn assert_unwritten(rt: &(impl Abort + AllocGlobal), count: usize, fault: Option<ErrorKind>) {
     let mut reader = BOOK.as_bytes();
     let mut writer = failing_writer(ANSWERS.as_bytes(), count, fault);
@@ -62,7 +63,8 @@ impl Write for Passed<'_> {
     }
 }
 
-/// Shows a text piece by piece, and notes how much was passed on whenever it is asked for a piece that it has not shown.
+/// Shows a text piece by piece, and notes how much was passed on whenever it is asked for a piece that it has not
+/// shown.
 #[derive(Drop)]
 struct Waiting<'a> {
     pieces: &'a [&'a str],

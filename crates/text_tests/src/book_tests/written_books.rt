@@ -13,8 +13,8 @@ const REPLY: [u8; 25] = [
     2, 2, 0, 2, 0, 1, 0, 0, 0, 0, 0, 0, 0, 0, 6, 0, 0, 0, 0, 0, 0, 0, 9, 1, 114,
 ];
 
-/// A text, and after it the book of node 1 of 2 with a start of 5. A client asks for `r`, another one is queued there, node 2
-/// replies, the first one leaves, and it asks for another name.
+/// A text, and after it the book of node 1 of 2 with a start of 5. A client asks for `r`, another one is queued there,
+/// node 2 replies, the first one leaves, and it asks for another name.
 pub const TEXT: &str = "earlier\nbook 1 1 2 5\nask 7 r X\nask 4294967295 r SIX\n\
     receive 02020002000100000000000000000600000000000000090172\nrelease 7 r\nask 0 a-B_9.z IS\n";
 

@@ -105,8 +105,8 @@ fn lines_that_are_refused_for_memory_come_again(rt: HostRuntime) {
 /// A line of a node, with the number of frames that it sends and of marks that it makes.
 type Line = (&'static str, u64, u64);
 
-/// The lines of node 1 of 2, each with the number of frames that it sends and of marks that it makes. They are a request,
-/// the reply to it, a request of the other node that is deferred, and a leave that answers it.
+/// The lines of node 1 of 2, each with the number of frames that it sends and of marks that it makes. They are a
+/// request, the reply to it, a request of the other node that is deferred, and a leave that answers it.
 const LINES: [Line; 4] = [
     ("ask 7 door X", 1, 1),
     (

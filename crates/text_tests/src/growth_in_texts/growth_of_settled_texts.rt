@@ -1,4 +1,5 @@
-//! If a growth is refused, books do not settle for lack of memory, and what comes of them is the same when they are read again.
+//! If a growth is refused, books do not settle for lack of memory, and what comes of them is the same when they are
+//! read again.
 use crate::text_asserting::assert_same;
 use ra_book_text::{SettleTextError, SettledText, TextCause, settle_text};
 use ra_stamp::Memory;
@@ -148,7 +149,8 @@ fn try_run(
     }
 }
 
-/// Settles books, and asserts that the expected run or refusal comes of them. If they are refused for another cause, memory ran out.
+/// Settles books, and asserts that the expected run or refusal comes of them. If they are refused for another cause,
+/// memory ran out.
 fn try_books(
     rt: &(impl Abort + AllocGlobal),
     at: At<'_>,

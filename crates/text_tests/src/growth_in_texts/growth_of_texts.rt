@@ -40,7 +40,8 @@ const TWO_WRITERS_VERDICT: MarksVerdict = MarksVerdict::Valid {
     grants: 2,
 };
 
-/// Compares what came of a call with what is expected. If the call was refused, memory ran out, which is the fault `memory`.
+/// Compares what came of a call with what is expected. If the call was refused, memory ran out, which is the fault
+/// `memory`.
 fn judge<T: Debug + PartialEq + Copy, E: Debug + PartialEq + Copy>(
     rt: &impl Abort,
     at: At<'_>,
@@ -217,7 +218,8 @@ fn growth_of_a_performance(rt: HostRuntime) {
 /// What is said of a line if nothing more precise is known.
 const LESS: &str = ": said of all";
 
-/// Checks what is said. If the note was refused, or says less since there was no memory for the lines before, memory ran out.
+/// Checks what is said. If the note was refused, or says less since there was no memory for the lines before, memory
+/// ran out.
 fn try_note(rt: &impl Abort, at: At<'_>, told: Told, text: &str) -> Result<Tried, Memory> {
     match told? {
         Some(note) if note.as_str().ends_with(LESS) && !text.ends_with(LESS) => {
@@ -337,8 +339,8 @@ fn growth_of_what_is_said_of_frames(rt: HostRuntime) {
 /// Three seeds.
 const SEEDS: SeedRange = SeedRange { first: 5, last: 7 };
 
-/// Looks among three seeds for the trace of one that comes to an end, which is the first one or none. If that is refused, memory ran
-/// out.
+/// Looks among three seeds for the trace of one that comes to an end, which is the first one or none. If that is
+/// refused, memory ran out.
 fn try_search(
     rt: &(impl Abort + AllocGlobal),
     script: &ra_schedule::Script,
@@ -424,8 +426,8 @@ fn nothing_counted() -> Counter {
     }
 }
 
-/// Looks at what came of drawing. A picture has elements, each with its end. If there is none, memory ran out, and nothing was
-/// written.
+/// Looks at what came of drawing. A picture has elements, each with its end. If there is none, memory ran out, and
+/// nothing was written.
 fn judge_drawing<V: Judged>(
     rt: &impl Abort,
     label: &str,

@@ -6,8 +6,8 @@ use ra_explain::{LineCause, digits_note, frame_note, line_note, unanswered_note}
 use ra_frame::FrameError;
 use ra_notes::{choices_note, order_note, script_end_note, script_note, unfinished_note};
 use ra_schedule::Policy;
-use ra_stamp::{Mark, Memory};
-use ra_trace::{Cause, MarkCause, TraceError, Verdict, check_buffered_with_due};
+use ra_stamp::Memory;
+use ra_trace::{Cause, Line, MarkCause, TraceError, Verdict, check_buffered_with_due};
 use std::alloc::Global;
 use std::process::Abort;
 use test_support::row;
@@ -45,12 +45,13 @@ pub enum Asked {
 /// What is said: nothing, or a text. Or memory ran out.
 pub type Told = Result<Option<String>, Memory>;
 
-/// Returns whether a line of a trace is the first wrong one, and is wrong for its marks. If so, `due` becomes the mark that is due.
+/// Returns whether a line of a trace is the first wrong one, and is wrong for its marks. If so, `due` becomes the line
+/// that is due.
 fn is_first_wrong(
     alloc: Global,
     number: u64,
     text: &[u8],
-    due: &mut Option<Mark>,
+    due: &mut Option<Line>,
 ) -> Result<bool, Memory> {
     let mut rest = text;
     match check_buffered_with_due(alloc, &mut rest, due) {
@@ -66,9 +67,10 @@ fn said_of_cause(alloc: Global, number: u64, text: &[u8], cause: LineCause) -> T
     line_note(alloc, text, number, cause, "said of all")
 }
 
-/// Returns what is said of a line of a trace that is wrong for its marks: with the mark that is due if it is the first wrong line.
+/// Returns what is said of a line of a trace that is wrong for its marks: with the line that is due if it is the first
+/// wrong line.
 fn said_of_marks(alloc: Global, number: u64, text: &[u8]) -> Told {
-    let mut due: Option<Mark> = None;
+    let mut due: Option<Line> = None;
     match is_first_wrong(alloc, number, text, &mut due) {
         Ok(true) => said_of_cause(alloc, number, text, LineCause::Due(due)),
         Ok(false) => said_of_cause(alloc, number, text, LineCause::Trace(Cause::Marks)),

@@ -14,8 +14,8 @@ const NO_LINE: Wrong = Wrong::Trace(Cause::Line);
 /// The same for a mark log.
 const NO_MARK: Wrong = Wrong::Marks(MarkCause::Line);
 
-/// Wrong lines after others that are wrong, too, which those that are checked never come after. If a line has no explanation of its
-/// own, its note has the text for all lines, `said of all`.
+/// Wrong lines after others that are wrong, too, which those that are checked never come after. If a line has no
+/// explanation of its own, its note has the text for all lines, `said of all`.
 const AFTER_OTHERS: &[Note] = &[
     // What is wrong before a line does not matter: a number that is too low.
     Note(
@@ -108,7 +108,8 @@ const AFTER_OTHERS: &[Note] = &[
         ),
         "line 5, 'release 1 2 r': client 2 has been queued for 'r' (S) at node 1 since line 4 and does not hold it",
     ),
-    // If an entry that leaves was never requested, it is said who holds its name: the first one that does, and not one that waits.
+    // If an entry that leaves was never requested, it is said who holds its name: the first one that does, and not one
+    // that waits.
     Note(
         Field(
             "request 1 7 r S 1\nrequest 2 8 r S 2\nrequest 3 9 r S 3\nenter 3 9 r S 3\nenter 2 8 r S 2\nleave 4 6 r S 1\n",
@@ -166,8 +167,8 @@ client = [
 pub const DEADLOCK_NOTE: &str =
     "the run did not finish: client 1 at node 1 waits for 'b' (X): client 2 holds it (X); client 2 at node 2 waits for 'a' (X): client 1 holds it (X)";
 
-/// What there is nothing to say of: a line of digits, runs that finish or have no script, choices that can be made or are no list,
-/// and a script that threads may run.
+/// What there is nothing to say of: a line of digits, runs that finish or have no script, choices that can be made or
+/// are no list, and a script that threads may run.
 const UNSAID: &[Note] = &[
     Note(Digits("01aF\n"), ""),
     Note(Unfinished(ONE_LOCK_SCRIPT, None), ""),

@@ -104,7 +104,8 @@ const FORMATS: &[(&str, OutputKind, usize)] = &[
     ("the state", State, ONE_LOCK_STATE_LENGTH),
 ];
 
-/// Asserts that the fault of a reader after each number of bytes is named, and no byte is read after it and none written.
+/// Asserts that the fault of a reader after each number of bytes is named, and no byte is read after it and none
+/// written.
 fn assert_unread(rt: &(impl Abort + AllocGlobal), label: &str, format: OutputKind) {
     for before_fault in 0..=ONE_LOCK_SCRIPT.len() {
         let mut reader = script_reader(Some(before_fault));
@@ -151,8 +152,8 @@ fn assert_prefix(
     assert_left(rt, at, &writer, left);
 }
 
-/// Asserts that it is so after each number of bytes, for a fault after which other writers would try again, and for a write that
-/// takes nothing. Asserts, too, that all is written byte by byte to a writer that would fail after it.
+/// Asserts that it is so after each number of bytes, for a fault after which other writers would try again, and for a
+/// write that takes nothing. Asserts, too, that all is written byte by byte to a writer that would fail after it.
 fn assert_unwritten(
     rt: &(impl Abort + AllocGlobal),
     label: &str,

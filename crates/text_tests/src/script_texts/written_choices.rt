@@ -73,8 +73,8 @@ fn repeats_and_ten_digits_have_no_text(rt: HostRuntime) {
     }
 }
 
-/// Performs a script by chance that repeats 400 of 1,000 messages, by a seed. Returns why its choices are not written, or `None`
-/// if they are.
+/// Performs a script by chance that repeats 400 of 1,000 messages, by a seed. Returns why its choices are not written,
+/// or `None` if they are.
 fn fault_by(alloc: Global, seed: u64, writer: &mut FailingWriter<'_>) -> Option<PerformError> {
     let faults = Faults::new(0, 400)?;
     let policy = Policy::Faulty { seed, faults };

@@ -47,7 +47,8 @@ const EXHAUSTED: StepError = StepError::Node(NodeRefusal::Exhausted);
 
 const NOT_HELD: StepError = StepError::Node(NodeRefusal::NotHeld);
 
-/// Asserts that two nodes refuse the step at this place for the cause of a case, so that there is no trace and nothing is written.
+/// Asserts that two nodes refuse the step at this place for the cause of a case, so that there is no trace and nothing
+/// is written.
 fn assert_no_trace(
     rt: &(impl Abort + AllocGlobal),
     at: At<'_>,

@@ -1,5 +1,5 @@
-//! Traces whose steps are read and written again. A text is the trace of one run at most, so the steps that its lines tell
-//! have no other trace. `cases/traces.toml` has the same traces as texts that are checked.
+//! Traces whose steps are read and written again. A text is the trace of one run at most, so the steps that its lines
+//! tell have no other trace. `cases/traces.toml` has the same traces as texts that are checked.
 use crate::shared_texts::{ONE_LOCK, REPEATED_REQUEST};
 use crate::trace_tests::traced_steps::{LOST_REPLY, Written, assert_written};
 

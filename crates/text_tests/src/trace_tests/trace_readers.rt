@@ -1,5 +1,5 @@
-//! How texts are read that are checked; and how far `check` and `check_buffered` read, and how they treat readers that fail or
-//! give a text in pieces.
+//! How texts are read that are checked; and how far `check` and `check_buffered` read, and how they treat readers that
+//! fail or give a text in pieces.
 use crate::shared_texts::{ONE_LOCK, ONE_LOCK_LENGTH, Part, TWO_LOCKS, text_of};
 use crate::text_asserting::assert_same;
 use ErrorKind::{BrokenPipe, Interrupted, WouldBlock};

@@ -135,7 +135,8 @@ fn assert_prefix(
     assert_left(rt, at, &writer, left);
 }
 
-/// Asserts that a writer that fails so after some bytes is not tried again, and that one that would fail after all gets them.
+/// Asserts that a writer that fails so after some bytes is not tried again, and that one that would fail after all gets
+/// them.
 fn assert_not_tried_again(rt: &(impl Abort + AllocGlobal), fault: Option<io::ErrorKind>) {
     for before_fault in [0, 1, 12, 139] {
         assert_prefix(rt, before_fault, fault);

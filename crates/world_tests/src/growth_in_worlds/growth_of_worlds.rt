@@ -55,7 +55,8 @@ fn make(
     }
 }
 
-/// Asserts that a world is like another one in which exactly these steps were made. If there is no memory to see that, says so.
+/// Asserts that a world is like another one in which exactly these steps were made. If there is no memory to see that,
+/// says so.
 fn compare(
     rt: &(impl Abort + AllocGlobal),
     at: At<'_>,
@@ -72,7 +73,8 @@ fn compare(
     Ok(Tried::NoFailure)
 }
 
-/// Returns what a world shows without memory: how many steps it has made, how many messages are under way, and the first one.
+/// Returns what a world shows without memory: how many steps it has made, how many messages are under way, and the
+/// first one.
 fn shown(world: &World) -> (u64, (u64, Option<ra_stamp::Message>)) {
     (world.steps(), (world.under_way(), world.message_at(0)))
 }
@@ -358,7 +360,8 @@ fn try_client(rt: &(impl Abort + AllocGlobal), script: &mut Script, number: u16)
     Tried::RetrySucceeded
 }
 
-/// Adds an operation of the last client, and again if memory ran out, when the client has to have no more operations than before.
+/// Adds an operation of the last client, and again if memory ran out, when the client has to have no more operations
+/// than before.
 fn try_op(rt: &impl Abort, script: &mut Script, op: &Op) -> Tried {
     let client = script.clients();
     let at = At("a script", "operation of client", client as usize);
@@ -511,8 +514,8 @@ fn try_survey(rt: &(impl Abort + AllocGlobal), script: &Script) -> Result<Tried,
     Ok(Tried::NoFailure)
 }
 
-/// Looks among three seeds for one that gets stuck, without finding one. If that is refused, memory ran out, and the observer was
-/// not told of the last seed.
+/// Looks among three seeds for one that gets stuck, without finding one. If that is refused, memory ran out, and the
+/// observer was not told of the last seed.
 fn try_search(rt: &(impl Abort + AllocGlobal), script: &Script) -> Result<Tried, Memory> {
     let (label, mut count) = ("a search", Count { told: 0 });
     let came = found(rt.alloc(), script, Ending::Stuck, SEEDS, 1_000, &mut count);

@@ -111,57 +111,59 @@ fn the_first_step_of_a_run_is_refused_for_each_cause(rt: HostRuntime) {
     assert_refused(&rt, CASES, 1);
 }
 
+/// The fortieth step of a run, and why it is refused.
+const FORTIETH_STEPS: &[Case] = &[
+    Case {
+        line: "ask 3 1 r X",
+        start: 0,
+        cause: StepError::NoNode,
+    },
+    Case {
+        line: "deliver request 1 2 r X 1",
+        start: 0,
+        cause: StepError::NotUnderWay,
+    },
+    Case {
+        line: "lose reply 2 1 r 9",
+        start: 0,
+        cause: StepError::NotUnderWay,
+    },
+    Case {
+        line: "repeat request 1 2 r X 1",
+        start: 0,
+        cause: StepError::NotUnderWay,
+    },
+    Case {
+        line: ASKS,
+        start: 0,
+        cause: BUSY,
+    },
+    Case {
+        line: ASKS,
+        start: TEN_LEFT,
+        cause: BUSY,
+    },
+    Case {
+        line: LEAVES,
+        start: 0,
+        cause: NOT_HELD,
+    },
+    Case {
+        line: "ask 1 2 r X",
+        start: TEN_LEFT,
+        cause: EXHAUSTED,
+    },
+    Case {
+        line: "ask 2 2 r X",
+        start: TEN_LEFT,
+        cause: EXHAUSTED,
+    },
+];
+
 /// Client 1 waits, and two REPLYs to its tenth request are under way.
 #[test]
 fn the_fortieth_step_of_a_run_is_refused_for_each_cause(rt: HostRuntime) {
-    const CASES: &[Case] = &[
-        Case {
-            line: "ask 3 1 r X",
-            start: 0,
-            cause: StepError::NoNode,
-        },
-        Case {
-            line: "deliver request 1 2 r X 1",
-            start: 0,
-            cause: StepError::NotUnderWay,
-        },
-        Case {
-            line: "lose reply 2 1 r 9",
-            start: 0,
-            cause: StepError::NotUnderWay,
-        },
-        Case {
-            line: "repeat request 1 2 r X 1",
-            start: 0,
-            cause: StepError::NotUnderWay,
-        },
-        Case {
-            line: ASKS,
-            start: 0,
-            cause: BUSY,
-        },
-        Case {
-            line: ASKS,
-            start: TEN_LEFT,
-            cause: BUSY,
-        },
-        Case {
-            line: LEAVES,
-            start: 0,
-            cause: NOT_HELD,
-        },
-        Case {
-            line: "ask 1 2 r X",
-            start: TEN_LEFT,
-            cause: EXHAUSTED,
-        },
-        Case {
-            line: "ask 2 2 r X",
-            start: TEN_LEFT,
-            cause: EXHAUSTED,
-        },
-    ];
-    assert_refused(&rt, CASES, 40);
+    assert_refused(&rt, FORTIETH_STEPS, 40);
 }
 
 /// Asserts that the 39 steps are made.

@@ -73,7 +73,8 @@ fn the_limit_may_be_more_than_there_is_room_for(rt: HostRuntime) {
     assert_read(&rt, at, &mut reader, usize::MAX, &bytes);
 }
 
-/// Asserts that [`BYTES`] are written or not to a writer that fails so after this many writes, and that it has taken these then.
+/// Asserts that [`BYTES`] are written or not to a writer that fails so after this many writes, and that it has taken
+/// these then.
 fn assert_taken(rt: &impl Abort, before_fault: usize, fault: Option<io::ErrorKind>) {
     let mut writer = failing_writer(BYTES, before_fault, fault);
     let came = write_out(&mut writer, BYTES);
@@ -88,7 +89,8 @@ fn assert_taken(rt: &impl Abort, before_fault: usize, fault: Option<io::ErrorKin
     assert_same(rt, at, &Some(writer.left), &BYTES.get(before_fault..));
 }
 
-/// Asserts that a writer that fails so is not written to again, wherever it fails, and takes all if it would fail after that.
+/// Asserts that a writer that fails so is not written to again, wherever it fails, and takes all if it would fail after
+/// that.
 fn assert_not_written_again(rt: &impl Abort, fault: Option<io::ErrorKind>) {
     for before_fault in 0..=3 {
         assert_taken(rt, before_fault, fault);

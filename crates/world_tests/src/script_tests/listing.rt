@@ -148,65 +148,68 @@ fn assert_listed_of_four(rt: &(impl Abort + AllocGlobal), rows: &[Listed], is_sh
     }
 }
 
+/// The choices of runs, by a model.
+const CHOICES_OF_A_MODEL: &[Listed] = &[
+    Listed {
+        shows: "the oldest choices",
+        chooser: Oldest,
+        choices: "c1 c2 c3 c4 m0 m0 m0 c1 m0 c2 m0 m0 m0 c3 m0 c4",
+    },
+    Listed {
+        shows: "the newest choices",
+        chooser: Newest,
+        choices: "c1 c2 c3 c4 m1 m0 m0 c1 m1 m0 c2 m1 m0 c3 m0 c4",
+    },
+    Listed {
+        shows: "seed 0",
+        chooser: Seeded(0),
+        choices: "c4 m0 c2 c1 c3 m1 m0 c4 m0 m0 c1 m0 c2 m0 m0 c3",
+    },
+    Listed {
+        shows: "seed 7",
+        chooser: Seeded(7),
+        choices: "c4 c2 m0 m0 c4 c3 m0 c1 m0 m0 c3 m1 m0 c2 m0 c1",
+    },
+    Listed {
+        shows: "seed 19",
+        chooser: Seeded(19),
+        choices: "c4 c3 c1 m1 c2 m1 c3 m0 m0 m0 c4 m1 m0 c1 m0 c2",
+    },
+    Listed {
+        shows: "seed 0 with faults",
+        chooser: Faulty {
+            seed: 0,
+            lose: 100,
+            repeat: 300,
+        },
+        choices: "c4 l0 c1 c2 m0 r0 c3 m1 c1 m1 m0",
+    },
+    Listed {
+        shows: "seed 1 with faults",
+        chooser: Faulty {
+            seed: 1,
+            lose: 100,
+            repeat: 300,
+        },
+        choices: "c4 m0 m0 c1 c3 m0 c2 c4 r0 r0 m2 r2 l1 c1 l3 m1 r1 m2 l1 m0",
+    },
+    Listed {
+        shows: "seed 7 with faults",
+        chooser: Faulty {
+            seed: 7,
+            lose: 100,
+            repeat: 300,
+        },
+        choices: "c4 c2 m0 m0 c3 m0 c1 c4 m1 r0 r0 r1 l3 r1 m0 m0 m0 c3 m1 m1 l0 c2 m0 c1",
+    },
+];
+
 /// The words were computed by a separate Python model of the algorithm, the policies and the generator PCG XSL RR
-/// 128/64, written from the rules in docs/ALGORITHM.md and docs/FORMATS.md. Of equal messages, a choice names the one that was drawn.
+/// 128/64, written from the rules in docs/ALGORITHM.md and docs/FORMATS.md. Of equal messages, a choice names the one
+/// that was drawn.
 #[test]
 fn the_choices_of_a_run_are_those_of_a_model(rt: HostRuntime) {
-    const ROWS: &[Listed] = &[
-        Listed {
-            shows: "the oldest choices",
-            chooser: Oldest,
-            choices: "c1 c2 c3 c4 m0 m0 m0 c1 m0 c2 m0 m0 m0 c3 m0 c4",
-        },
-        Listed {
-            shows: "the newest choices",
-            chooser: Newest,
-            choices: "c1 c2 c3 c4 m1 m0 m0 c1 m1 m0 c2 m1 m0 c3 m0 c4",
-        },
-        Listed {
-            shows: "seed 0",
-            chooser: Seeded(0),
-            choices: "c4 m0 c2 c1 c3 m1 m0 c4 m0 m0 c1 m0 c2 m0 m0 c3",
-        },
-        Listed {
-            shows: "seed 7",
-            chooser: Seeded(7),
-            choices: "c4 c2 m0 m0 c4 c3 m0 c1 m0 m0 c3 m1 m0 c2 m0 c1",
-        },
-        Listed {
-            shows: "seed 19",
-            chooser: Seeded(19),
-            choices: "c4 c3 c1 m1 c2 m1 c3 m0 m0 m0 c4 m1 m0 c1 m0 c2",
-        },
-        Listed {
-            shows: "seed 0 with faults",
-            chooser: Faulty {
-                seed: 0,
-                lose: 100,
-                repeat: 300,
-            },
-            choices: "c4 l0 c1 c2 m0 r0 c3 m1 c1 m1 m0",
-        },
-        Listed {
-            shows: "seed 1 with faults",
-            chooser: Faulty {
-                seed: 1,
-                lose: 100,
-                repeat: 300,
-            },
-            choices: "c4 m0 m0 c1 c3 m0 c2 c4 r0 r0 m2 r2 l1 c1 l3 m1 r1 m2 l1 m0",
-        },
-        Listed {
-            shows: "seed 7 with faults",
-            chooser: Faulty {
-                seed: 7,
-                lose: 100,
-                repeat: 300,
-            },
-            choices: "c4 c2 m0 m0 c3 m0 c1 c4 m1 r0 r0 r1 l3 r1 m0 m0 m0 c3 m1 m1 l0 c2 m0 c1",
-        },
-    ];
-    assert_listed_of_four(&rt, ROWS, false);
+    assert_listed_of_four(&rt, CHOICES_OF_A_MODEL, false);
 }
 
 /// The words were computed from those above by a separate Python model, `cases/shrink_model.py`.

@@ -1,4 +1,5 @@
-//! How many turns `drive` and `summarize` make, which choice they refuse, and why: the first choice, and one after many others.
+//! How many turns `drive` and `summarize` make, which choice they refuse, and why: the first choice, and one after many
+//! others.
 use crate::script_tests::listing::lockers;
 use crate::script_tests::policies::{Chooser, driven, policy, summed};
 use crate::script_tests::scripts::{adds_locks, fault_of_client};
@@ -12,7 +13,8 @@ use std::alloc::Global;
 use std::process::Abort;
 use test_support::{At, row};
 
-/// Makes a script of two nodes: client 1, at node 1, locks `r` ten times, in four turns each time, and client 2 does nothing.
+/// Makes a script of two nodes: client 1, at node 1, locks `r` ten times, in four turns each time, and client 2 does
+/// nothing.
 fn ten_locks(rt: &(impl Abort + AllocGlobal)) -> Script {
     let at = row("a script of ten locks");
     match Script::new(rt.alloc(), 2) {
@@ -93,180 +95,184 @@ fn assert_cases(rt: &(impl Abort + AllocGlobal), cases: &[Case]) {
     }
 }
 
+/// Choices at the beginning of a run, and why each is refused.
+const FIRST_CHOICES: &[Case] = &[
+    // The client has nothing to do.
+    Case {
+        shows: "an idle client",
+        locks: 0,
+        choices: &[Client(2)],
+        limit: 1,
+        cause: NotEnabled,
+    },
+    Case {
+        shows: "client 0",
+        locks: 0,
+        choices: &[Client(0)],
+        limit: 1,
+        cause: BadPlace,
+    },
+    Case {
+        shows: "client 3",
+        locks: 0,
+        choices: &[Client(3)],
+        limit: 1,
+        cause: BadPlace,
+    },
+    Case {
+        shows: "no message",
+        locks: 0,
+        choices: &[Message(0)],
+        limit: 1,
+        cause: BadPlace,
+    },
+    Case {
+        shows: "no message to lose",
+        locks: 0,
+        choices: &[Lost(0)],
+        limit: 1,
+        cause: BadPlace,
+    },
+    Case {
+        shows: "no message to repeat",
+        locks: 0,
+        choices: &[Repeated(0)],
+        limit: 1,
+        cause: BadPlace,
+    },
+    // No turn is left for the choice.
+    Case {
+        shows: "client 1, no turn",
+        locks: 0,
+        choices: &[Client(1)],
+        limit: 0,
+        cause: TurnLimit,
+    },
+    Case {
+        shows: "client 2, no turn",
+        locks: 0,
+        choices: &[Client(2)],
+        limit: 0,
+        cause: TurnLimit,
+    },
+    Case {
+        shows: "a message, no turn",
+        locks: 0,
+        choices: &[Message(0)],
+        limit: 0,
+        cause: TurnLimit,
+    },
+];
+
 #[test]
 fn the_first_choice_is_refused_for_each_cause(rt: HostRuntime) {
-    const CASES: &[Case] = &[
-        // The client has nothing to do.
-        Case {
-            shows: "an idle client",
-            locks: 0,
-            choices: &[Client(2)],
-            limit: 1,
-            cause: NotEnabled,
-        },
-        Case {
-            shows: "client 0",
-            locks: 0,
-            choices: &[Client(0)],
-            limit: 1,
-            cause: BadPlace,
-        },
-        Case {
-            shows: "client 3",
-            locks: 0,
-            choices: &[Client(3)],
-            limit: 1,
-            cause: BadPlace,
-        },
-        Case {
-            shows: "no message",
-            locks: 0,
-            choices: &[Message(0)],
-            limit: 1,
-            cause: BadPlace,
-        },
-        Case {
-            shows: "no message to lose",
-            locks: 0,
-            choices: &[Lost(0)],
-            limit: 1,
-            cause: BadPlace,
-        },
-        Case {
-            shows: "no message to repeat",
-            locks: 0,
-            choices: &[Repeated(0)],
-            limit: 1,
-            cause: BadPlace,
-        },
-        // No turn is left for the choice.
-        Case {
-            shows: "client 1, no turn",
-            locks: 0,
-            choices: &[Client(1)],
-            limit: 0,
-            cause: TurnLimit,
-        },
-        Case {
-            shows: "client 2, no turn",
-            locks: 0,
-            choices: &[Client(2)],
-            limit: 0,
-            cause: TurnLimit,
-        },
-        Case {
-            shows: "a message, no turn",
-            locks: 0,
-            choices: &[Message(0)],
-            limit: 0,
-            cause: TurnLimit,
-        },
-    ];
-    assert_cases(&rt, CASES);
+    assert_cases(&rt, FIRST_CHOICES);
 }
+
+/// Choices after nine or ten locks, and why the last one is refused.
+const LATER_CHOICES: &[Case] = &[
+    Case {
+        shows: "it waits",
+        locks: 9,
+        choices: &[Client(1), Client(1)],
+        limit: 38,
+        cause: NotEnabled,
+    },
+    Case {
+        shows: "is idle",
+        locks: 9,
+        choices: &[Client(1), Client(2)],
+        limit: 38,
+        cause: NotEnabled,
+    },
+    Case {
+        shows: "client 0",
+        locks: 9,
+        choices: &[Client(1), Client(0)],
+        limit: 38,
+        cause: BadPlace,
+    },
+    Case {
+        shows: "client 3",
+        locks: 9,
+        choices: &[Client(1), Client(3)],
+        limit: 38,
+        cause: BadPlace,
+    },
+    Case {
+        shows: "message 1",
+        locks: 9,
+        choices: &[Client(1), Message(1)],
+        limit: 38,
+        cause: BadPlace,
+    },
+    Case {
+        shows: "loss of 1",
+        locks: 9,
+        choices: &[Client(1), Lost(1)],
+        limit: 38,
+        cause: BadPlace,
+    },
+    Case {
+        shows: "repeat of 1",
+        locks: 9,
+        choices: &[Client(1), Repeated(1)],
+        limit: 38,
+        cause: BadPlace,
+    },
+    Case {
+        shows: "no turn left",
+        locks: 9,
+        choices: &[Client(1), Message(0)],
+        limit: 37,
+        cause: TurnLimit,
+    },
+    Case {
+        shows: "waits, no turn",
+        locks: 9,
+        choices: &[Client(1), Client(1)],
+        limit: 37,
+        cause: TurnLimit,
+    },
+    Case {
+        shows: "no turn for 1",
+        locks: 9,
+        choices: &[Client(1), Message(1)],
+        limit: 37,
+        cause: TurnLimit,
+    },
+    // Everything is done.
+    Case {
+        shows: "all is done",
+        locks: 10,
+        choices: &[Client(1)],
+        limit: 41,
+        cause: NotEnabled,
+    },
+    Case {
+        shows: "no message is left",
+        locks: 10,
+        choices: &[Message(0)],
+        limit: 41,
+        cause: BadPlace,
+    },
+    Case {
+        shows: "done, no turn",
+        locks: 10,
+        choices: &[Client(1)],
+        limit: 40,
+        cause: TurnLimit,
+    },
+];
 
 /// After nine locks client 1 asks once more, so that it waits and its REQUEST is under way.
 #[test]
 fn a_choice_after_many_is_refused_for_each_cause(rt: HostRuntime) {
-    const CASES: &[Case] = &[
-        Case {
-            shows: "it waits",
-            locks: 9,
-            choices: &[Client(1), Client(1)],
-            limit: 38,
-            cause: NotEnabled,
-        },
-        Case {
-            shows: "is idle",
-            locks: 9,
-            choices: &[Client(1), Client(2)],
-            limit: 38,
-            cause: NotEnabled,
-        },
-        Case {
-            shows: "client 0",
-            locks: 9,
-            choices: &[Client(1), Client(0)],
-            limit: 38,
-            cause: BadPlace,
-        },
-        Case {
-            shows: "client 3",
-            locks: 9,
-            choices: &[Client(1), Client(3)],
-            limit: 38,
-            cause: BadPlace,
-        },
-        Case {
-            shows: "message 1",
-            locks: 9,
-            choices: &[Client(1), Message(1)],
-            limit: 38,
-            cause: BadPlace,
-        },
-        Case {
-            shows: "loss of 1",
-            locks: 9,
-            choices: &[Client(1), Lost(1)],
-            limit: 38,
-            cause: BadPlace,
-        },
-        Case {
-            shows: "repeat of 1",
-            locks: 9,
-            choices: &[Client(1), Repeated(1)],
-            limit: 38,
-            cause: BadPlace,
-        },
-        Case {
-            shows: "no turn left",
-            locks: 9,
-            choices: &[Client(1), Message(0)],
-            limit: 37,
-            cause: TurnLimit,
-        },
-        Case {
-            shows: "waits, no turn",
-            locks: 9,
-            choices: &[Client(1), Client(1)],
-            limit: 37,
-            cause: TurnLimit,
-        },
-        Case {
-            shows: "no turn for 1",
-            locks: 9,
-            choices: &[Client(1), Message(1)],
-            limit: 37,
-            cause: TurnLimit,
-        },
-        // Everything is done.
-        Case {
-            shows: "all is done",
-            locks: 10,
-            choices: &[Client(1)],
-            limit: 41,
-            cause: NotEnabled,
-        },
-        Case {
-            shows: "no message is left",
-            locks: 10,
-            choices: &[Message(0)],
-            limit: 41,
-            cause: BadPlace,
-        },
-        Case {
-            shows: "done, no turn",
-            locks: 10,
-            choices: &[Client(1)],
-            limit: 40,
-            cause: TurnLimit,
-        },
-    ];
-    assert_cases(&rt, CASES);
+    assert_cases(&rt, LATER_CHOICES);
 }
 
-/// Asserts that a policy's run of a script ends after this many turns and is finished or not, whether its steps are kept or not, and is
-/// cut off by one turn less.
+/// Asserts that a policy's run of a script ends after this many turns and is finished or not, whether its steps are
+/// kept or not, and is cut off by one turn less.
 fn assert_turns(
     rt: &(impl Abort + AllocGlobal),
     at: At<'_>,
@@ -350,7 +356,8 @@ fn each_policy_has_as_many_turns_as_there_may_be(rt: HostRuntime) {
     }
 }
 
-/// With seed 0, the second random word names the REQUEST, and the third one is 81 modulo 1,000. So it is repeated or lost.
+/// With seed 0, the second random word names the REQUEST, and the third one is 81 modulo 1,000. So it is repeated or
+/// lost.
 #[test]
 fn turns_that_lose_or_repeat_a_message_count(rt: HostRuntime) {
     const ROWS: &[Turns] = &[
@@ -426,8 +433,8 @@ fn a_script_without_operations_takes_no_turn(rt: HostRuntime) {
     }
 }
 
-/// The REQUEST is repeated, and then a REPLY; the first REPLY delivered lets the client in. No list of choices that a command reads can
-/// repeat a message.
+/// The REQUEST is repeated, and then a REPLY; the first REPLY delivered lets the client in. No list of choices that a
+/// command reads can repeat a message.
 const REPEATS: &[Choice] = &[
     Client(1),
     Repeated(0),

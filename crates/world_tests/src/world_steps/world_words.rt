@@ -11,6 +11,7 @@ const CAUSES: &[(StepError, &str)] = &[
     (StepError::Node(NodeRefusal::Busy), "Busy"),
     (StepError::Node(NodeRefusal::Exhausted), "Exhausted"),
     (StepError::Node(NodeRefusal::NotHeld), "NotHeld"),
+    (StepError::Node(NodeRefusal::NotWaiting), "NotWaiting"),
     (StepError::NoNode, "NoNode"),
     (StepError::NotUnderWay, "NotUnderWay"),
     (StepError::Memory, "Memory"),

@@ -1,5 +1,5 @@
-//! What no command shows of a world: which steps it accepts, which of equal messages it takes if it looks at one of them first, and that
-//! it makes more steps than any trace has. What happens in runs is in `cases/traces.toml`.
+//! What no command shows of a world: which steps it accepts, which of equal messages it takes if it looks at one of
+//! them first, and that it makes more steps than any trace has. What happens in runs is in `cases/traces.toml`.
 use crate::world_steps::report_totals::totals;
 use crate::world_steps::world_asserting::assert_same;
 use crate::world_steps::world_calls::{ASKS, LEAVES, fault_of, new_world, report_of, step};
@@ -51,15 +51,16 @@ fn only_what_may_come_next_is_accepted(rt: HostRuntime) {
     }
 }
 
-/// The line of a step, the place at which its message is looked for first, and the deliveries of the messages that are under way then.
+/// The line of a step, the place at which its message is looked for first, and the deliveries of the messages that are
+/// under way then.
 struct Near {
     line: &'static str,
     place: u64,
     under_way: &'static [&'static str],
 }
 
-/// The REQUEST to node 2 of 3 is repeated after that to node 3. If the copy is looked at, the message that is before it is the one that
-/// goes.
+/// The REQUEST to node 2 of 3 is repeated after that to node 3. If the copy is looked at, the message that is before it
+/// is the one that goes.
 const NEAR: &[Near] = &[
     Near {
         line: ASKS,
@@ -151,7 +152,8 @@ fn of_equal_messages_the_first_goes(rt: HostRuntime) {
     }
 }
 
-/// A client of node 1 locks and unlocks `r`, over and over. Whenever it waits, the message that was sent first is delivered.
+/// A client of node 1 locks and unlocks `r`, over and over. Whenever it waits, the message that was sent first is
+/// delivered.
 struct Locks {
     nodes: u16,
     locks: u32,

@@ -6,7 +6,7 @@ use Rattle.ra_book_text.proofs.answering.take_events.Given as goal
 -- the lines so far were answered, one in each turn
 abbrev pub invariant-loop-line : goal.invariant-loop-line
 invariant-loop-line g l = record {
-  answered : (text : List ℕ) × HasAnswered (g.B.Read.remaining l.fn.reader) (g.B.Read.remaining l.reader) l.fn.node text l.node l._line
+  answered : (text : List ℕ) × HasAnswered l.fn.version (g.B.Read.remaining l.fn.reader) (g.B.Read.remaining l.reader) l.fn.node text l.node l._line
       × Puts (g.W.Write.contents l.fn.writer) (g.W.Write.contents l.writer) l.fn.out l.out text;
   unfailed : l.input.failed ≡ false;
 }

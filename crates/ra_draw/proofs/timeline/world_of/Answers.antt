@@ -1,6 +1,6 @@
 use Rattle.std.proofs.Common.{◌≡◌, ℕ, false, [], ◌∷◌, refl, sym, ◌∙◌}
 use Rattle.ra_trace.specs.declared.line.Line.{Line}
-use Rattle.ra_trace.specs.declared.line.Line.TheVariants.{First, Stepped, Marked, Last}
+use Rattle.ra_trace.specs.declared.line.Line.TheVariants.{First, Stepped, Sent, Marked, Last}
 use Rattle.ra_trace.specs.declared.line.version.Version.{Version}
 use Rattle.ra_draw.specs.Pictures.{is_trace}
 use Rattle.ra_draw.proofs.FirstLines.{trace_told}
@@ -9,6 +9,7 @@ use Rattle.ra_draw.proofs.timeline.world_of.Goals as goal
 no_trace : (line : Line) → ((version : Version) (nodes start : ℕ) → line ≡ First version nodes start → ⊥) → is_trace (line ∷ []) ≡ false
 no_trace (First version nodes start) other = absurd (other version nodes start refl)
 no_trace (Stepped step) other = refl
+no_trace (Sent message) other = refl
 no_trace (Marked mark) other = refl
 no_trace Last other = refl
 

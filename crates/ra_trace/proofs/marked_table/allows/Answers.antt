@@ -1,4 +1,4 @@
-use Rattle.ra_table.proofs.Next.{allows_request, allows_enter, allows_leave}
+use Rattle.ra_table.proofs.Next.{allows_request, allows_enter, allows_leave, allows_withdrawal}
 use Rattle.ra_trace.proofs.marked_table.allows.Goals as goal
 
 pub returns-in-Requested : goal.returns-in-Requested
@@ -18,3 +18,9 @@ returns-in-Left c =
     let law = allows_leave c.args.table.now c.in-Left.entry in
     let told = c.holds.ensures.held in
     rw c.in-Left.is (λ yes. law.1 (told.0 yes), λ allowed. told.1 (law.0 allowed))
+
+pub returns-in-Withdrawn : goal.returns-in-Withdrawn
+returns-in-Withdrawn c =
+    let law = allows_withdrawal c.args.table.now c.in-Withdrawn.entry in
+    let told = c.waits.ensures.waits in
+    rw c.in-Withdrawn.is (λ yes. law.1 (told.0 yes), λ allowed. told.1 (law.0 allowed))

@@ -1,38 +1,27 @@
-use Rattle.std.proofs.Common.{◌≡◌, ◌++◌, ◌+◌, List, All, flat_map, take, take_all, ap, sym, ◌∙◌, subst, append_assoc, arith}
-use Rattle.std.proofs.lemmas.Grind.{common_steps}
-use Rattle.std.proofs.lemmas.List.{append-nil}
-use Rattle.std.proofs.lemmas.List.Elements.{All-nil, All-more}
-use Rattle.ra_stamp.specs.declared.entry.Mark.{Mark}
-use Rattle.ra_text.specs.Lines.{mark_line}
-use Rattle.ra_text.proofs.Drafts.{adds_as, adds_both}
-use Rattle.ra_trace.specs.Ranges.{MarkFits}
-use Rattle.ra_trace.specs.TraceText.{step_line}
+use Rattle.std.proofs.Common.{All, flat_map, sym, ◌∙◌}
+use Rattle.std.proofs.lemmas.Bool.{false≢true}
+use Rattle.ra_text.specs.Drafting.{Adds}
+use Rattle.ra_text.proofs.Drafts.{adds_as, adds_to, adds_both}
+use Rattle.ra_trace.specs.Version.{TellsSends}
+use Rattle.ra_trace.specs.Ranges.{MessageFits}
+use Rattle.ra_trace.specs.TraceText.{line_text, sent_lines}
+use Rattle.ra_trace.proofs.Traced.{adds_nothing, told_lines, untold_lines}
 use Rattle.ra_trace.proofs.trace_writing.push_move.Goals as goal
+use Rattle.ra_trace.proofs.trace_writing.push_move.Goals.{then-has_sends, else-has_sends}
 
-pub loop-mark-init : goal.loop-mark-init
-loop-mark-init c = record {
-  adds = adds_as c.push_step.ensures (sym (append-nil _));
-  fit = All-nil MarkFits;
-}
-
-pub loop-mark-preserved : goal.loop-mark-preserved
-loop-mark-preserved c =
-    let items = c.as_slice-mark-items.result.now in
-    let i = c.loop-mark.mark-index in
-    let step = step_line c.args.step.now in
-    let more : (step ++ flat_map mark_line (take i items)) ++ mark_line c.mark-item.result ≡ step ++ flat_map mark_line (take (i + 1) items) =
-    grind (arith, common_steps, append_assoc) in
+pub returns : goal.returns
+returns c =
+    let version = c.args.version in
+    let sends = c.args.sends.now.items in
+    let told : Adds c.push_step.new.text (flat_map line_text (sent_lines version sends)) c.if-has_sends.text × (TellsSends version → All MessageFits sends) =
+    elim c.if-has_sends.branch [
+      | then-has_sends w ↦
+          (adds_to w.text-is (adds_as w.push_sends.ensures.text (sym (told_lines version sends (sym c.has_sends.ensures ∙ w.if-has_sends.true)))), λ _. w.push_sends.ensures.fit)
+      | else-has_sends w ↦
+          let untold = sym c.has_sends.ensures ∙ w.if-has_sends.false in
+          (adds_to w.text-is (adds_as adds_nothing (sym (untold_lines version sends untold))), λ tells. absurd (false≢true (sym untold ∙ tells)))
+    ] in
     record {
-      adds = adds_as (adds_both c.loop-mark.invariant.adds c.push_mark_line.ensures) more;
-      fit = All-more MarkFits items i c.mark-item.result c.loop-mark-test.true c.loop-mark.invariant.fit (subst MarkFits c.mark-item.is c.mark_fits.ensures);
+      text = adds_both (adds_both c.push_step.ensures told.0) c.push_marks.ensures.text;
+      fit = (c.step_fits.ensures, c.push_marks.ensures.fit, told.1);
     }
-
-pub returns-clause-text : goal.returns-clause-text
-returns-clause-text c =
-    let all = take_all c.loop-mark.mark-index c.as_slice-mark-items.result.now c.loop-mark-test.false ∙ c.as_slice-mark-items.ensures in
-    adds_as c.loop-mark.invariant.adds (ap (λ (marks : List Mark). step_line c.args.step.now ++ flat_map mark_line marks) all)
-
-pub returns-clause-fit : goal.returns-clause-fit
-returns-clause-fit c =
-    let all = take_all c.loop-mark.mark-index c.as_slice-mark-items.result.now c.loop-mark-test.false ∙ c.as_slice-mark-items.ensures in
-    (c.step_fits.ensures, subst (All MarkFits) all c.loop-mark.invariant.fit)

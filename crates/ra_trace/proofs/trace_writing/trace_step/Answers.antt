@@ -14,13 +14,13 @@ run_is_no_memory why e = cc
 
 pub returns-else-text-clause-traced : goal.returns-else-text-clause-traced
 returns-else-text-clause-traced c n start steps inside is traced =
-    traced_more n start c.args.place steps c.args.step.now c.args.world.now c.step.new.self c.in-Ok.outcome.sends.items c.in-Ok.outcome.marks.items
+    traced_more c.args.version n start c.args.place steps c.args.step.now c.args.world.now c.step.new.self c.in-Ok.outcome.sends.items c.in-Ok.outcome.marks.items
     c.args.text.now c.push_move.new.text traced inside is c.in-Ok.ensures.ok c.in-Ok.ensures.run c.push_move.ensures.text c.push_move.ensures.fit
 
 pub returns-in_default-clause-traced : goal.returns-in_default-clause-traced
 returns-in_default-clause-traced c n start steps inside is traced =
     let cause = c.in-Err.cause in
-    stops_by (prefix_of_steps laws_below.splits) (steps_go_on laws_below) n start c.args.place steps c.args.step.now c.args.world.now c.args.text.now cause
+    stops_by (prefix_of_steps laws_below.splits) (steps_go_on laws_below) c.args.version n start c.args.place steps c.args.step.now c.args.world.now c.args.text.now cause
     (Run (Refused (c.args.place + 1) cause)) traced inside is (λ other. (c.in-Err.ensures.refused cause other).0 refl) c.in-Err.ensures.allowed.1
     (λ same. absurd (c.in_default.not-Memory same)) (λ other. refl)
 

@@ -5,4 +5,4 @@ use Rattle.ra_trace.proofs.trace_writing.trace_steps.Given as goal
 -- the steps so far, and their text
 abbrev pub invariant-loop-place : goal.invariant-loop-place
 invariant-loop-place l =
-    (n start : ℕ) → HasTraced n start [] l.fn.world l.fn.text → HasTraced n start (take l.place l.step-items) l.world l.text
+    (n start : ℕ) → HasTraced l.version n start [] l.fn.world l.fn.text → HasTraced l.version n start (take l.place l.step-items) l.world l.text

@@ -1,80 +1,24 @@
-use Rattle.std.proofs.Common.{◌≡◌, Result, Err, refl, sym, ap, subst}
-use Rattle.ra_world.specs.declared.error.NewError.{NewError}
-use Rattle.ra_world.specs.declared.error.NewError.TheVariants as new
-use Rattle.ra_world.specs.declared.error.RunError.TheVariants as run
+use Rattle.std.proofs.Common.{◌≡◌, ℕ, List, map, Result, Ok, Err, IfOk, subst, sym, ap, ◌∙◌}
+use Rattle.std.specs.Prelude.{string_bytes}
+use Rattle.ra_world.specs.declared.step.Step.{Step}
+use Rattle.ra_world.specs.Traffic.{Move}
 use Rattle.ra_trace.specs.declared.error.WriteTraceError.{WriteTraceError}
-use Rattle.ra_trace.specs.declared.error.WriteTraceError.TheVariants.{Run, Memory}
-use Rattle.ra_trace.specs.TraceText.{IsTrace}
-use Rattle.ra_trace.specs.Writing.{IsOpened}
-use Rattle.ra_trace.proofs.Refusing.{unopened, stopped, all_made}
+use Rattle.ra_trace.specs.declared.line.version.Version.{Version}
+use Rattle.ra_trace.specs.TraceText.{IsTrace, IsTraceIn, plain_version}
 use Rattle.ra_trace.proofs.trace_writing.trace_text.Goals as goal
 
--- ---- The world is not made
+-- the version is the one in which the steps are written
+as_plain : {X : Type 0} (bytes : X → List ℕ) (version : Version) (n start : ℕ) (steps : List Step) (result : Result X WriteTraceError) → version ≡ plain_version steps
+    → IfOk result (λ text. (moves : List Move) × (map (λ (move : Move). move.step) moves ≡ steps) × IsTraceIn version n start moves (bytes text))
+    → IfOk result (λ text. (moves : List Move) × (map (λ (move : Move). move.step) moves ≡ steps) × IsTrace n start moves (bytes text))
+as_plain bytes version n start steps (Ok text) is (moves, made, trace) =
+    (moves, made, subst (λ (v : Version). IsTraceIn v n start moves (bytes text)) (is ∙ ap plain_version (sym made)) trace)
+as_plain bytes version n start steps (Err fault) is h = h
 
-memory_is_no_count : (why : NewError) → why ≡ new.Memory → ◌≡◌ {A = NewError} why new.BadCount → ⊥
-memory_is_no_count why is e = cc
-
-same_refusal : {T : Type 0} (why other : NewError) → ◌≡◌ {A = Result T NewError} (Err why) (Err other) → why ≡ other
-same_refusal why other e = cc
-
-pub returns-in-Err-BadCount : goal.returns-in-Err-BadCount
-returns-in-Err-BadCount c =
-    let arm = c.in-Err-BadCount in
-    let fault : WriteTraceError = Run run.BadCount in
-    let tells = unopened c.args.nodes c.args.start c.args.steps.now.items (Err fault) fault refl (arm.ensures.bad_count.0 (ap Err arm.field-0-is)) in
+pub returns : goal.returns
+returns c =
     record {
-      ok = tt;
-      refusals = tells.refusals;
-      early = tells.early;
-    }
-
-pub returns-in-Err-Memory : goal.returns-in-Err-Memory
-returns-in-Err-Memory c =
-    let arm = c.in-Err-Memory in
-    let tells = unopened c.args.nodes c.args.start c.args.steps.now.items (Err Memory) Memory refl
-    (λ bad. memory_is_no_count arm.field-0 arm.field-0-is (same_refusal _ _ (arm.ensures.bad_count.1 bad))) in
-    record {
-      ok = tt;
-      refusals = tells.refusals;
-      early = tells.early;
-    }
-
--- ---- A step is not made
-
-pub returns-in-Err : goal.returns-in-Err
-returns-in-Err c =
-    let opened : IsOpened c.args.nodes c.args.start c.in-Ok.world =
-    record { number = c.in-Ok.ensures.count; is = c.in-Ok.ensures.ok; run = c.in-Ok.ensures.run } in
-    let tells = stopped c.args.nodes c.args.start c.args.steps.now.items (Err c.in-Err.fault) c.in-Err.fault refl opened.number
-    (c.in-Err.ensures c.new-text.ensures.says opened) in
-    record {
-      ok = tt;
-      refusals = tells.refusals;
-      early = tells.early;
-    }
-
--- ---- All steps are made
-
-pub returns-in-Ok-finish : goal.returns-in-Ok-finish
-returns-in-Ok-finish c =
-    let n = c.args.nodes in
-    let start = c.args.start in
-    let opened : IsOpened c.args.nodes c.args.start c.in-Ok.world =
-    record { number = c.in-Ok.ensures.count; is = c.in-Ok.ensures.ok; run = c.in-Ok.ensures.run } in
-    let (moves, bytes, made, trace, says) = c.in-Ok-written.ensures c.new-text.ensures.says opened in
-    let tells = all_made n start c.args.steps.now.items c.in-Ok-finish.text opened.number in
-    record {
-      ok = (moves, made, subst (IsTrace n start moves) (sym (c.in-Ok-finish.ensures.text bytes says)) trace);
-      refusals = tells.refusals;
-      early = tells.early;
-    }
-
--- there was no memory for all of the text
-pub returns-in-Err-finish : goal.returns-in-Err-finish
-returns-in-Err-finish c =
-    let tells = stopped c.args.nodes c.args.start c.args.steps.now.items (Err Memory) Memory refl c.in-Ok.ensures.count tt in
-    record {
-      ok = tt;
-      refusals = tells.refusals;
-      early = tells.early;
+      ok = as_plain string_bytes c.plain_version.result c.args.nodes c.args.start c.args.steps.now.items c.text_in.result c.plain_version.ensures.version c.text_in.ensures.ok;
+      refusals = c.text_in.ensures.refusals;
+      early = c.text_in.ensures.early;
     }

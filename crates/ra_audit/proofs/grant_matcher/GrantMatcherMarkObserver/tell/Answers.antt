@@ -11,7 +11,8 @@ invariant_of-self c =
     let m = c.args.mark.now in
     let none : entered_in (m ∷ []) ≡ [] = elim (c.in-Requested.is) [
       | inl requested ↦ ap (λ (x : Mark). entered_in (x ∷ [])) requested.1
-      | inr left ↦ ap (λ (x : Mark). entered_in (x ∷ [])) left.1
+      | inr (inl left) ↦ ap (λ (x : Mark). entered_in (x ∷ [])) left.1
+      | inr (inr withdrawn) ↦ ap (λ (x : Mark). entered_in (x ∷ [])) withdrawn.1
     ] in
     is_as (i.told ++ m ∷ []) _ i.grants.items _ i.waiting.items _ i.left.items _ i.forgot c.tell.ensures.told refl refl refl
     (mark_passed i.told i.grants.items i.waiting.items i.left.items i.forgot c.self.invariant m none)

@@ -10,7 +10,7 @@ use Rattle.ra_automaton.specs.declared.phase.Phase.TheVariants.{Idle}
 use Rattle.ra_automaton.specs.Steps.{LeaveAndRequestStep, Begins, greatest_number, others_of}
 use Rattle.ra_automaton.specs.NodeSet.{nobody_of}
 use Rattle.ra_automaton.specs.State.{State, IsConsistent, IsInside}
-use Rattle.ra_automaton.proofs.Consistent.{consistent_end, consistent_begins, inside_is}
+use Rattle.ra_automaton.proofs.Consistent.{consistent_end, consistent_begins, inside_is, inside_is_busy}
 use Rattle.ra_automaton.proofs.automaton.Automaton.leave_and_request_into.Goals as goal
 
 turn : (old between new : State) (mode : Mode) (sends : List Message) (entered : Bool) → IsInside old.phase → old.highest < greatest_number → between ≡ record old { phase = Idle; deferred = finmap.empty }
@@ -24,7 +24,7 @@ turn old between new mode sends entered inside left ended are begins =
       between = between;
       replies = replies;
       requests = requests between;
-      leaves = record { seq = held.0; mode = held.1; inside = held.2; sends_are = refl; new_is = ended };
+      ends = record { seq = held.0; mode = held.1; inside = held.2; sends_are = refl; new_is = ended };
       asks = record {
         idle = ap (λ (s : State). s.phase) ended;
         number_left = subst (λ (s : State). s.highest < greatest_number) (sym ended) left;
@@ -40,20 +40,20 @@ returns-clause-left c =
     let inside = c.is_inside.ensures.value.0 c.if-not-is_inside.false in
     let are : c.push_turn.new.sends.items ≡ map (λ entry. Reply old.me entry.0 old.name entry.1) (finmap.entries old.deferred) ++ map (λ other. Request old.me other old.name c.args.mode (old.highest + 1)) (others_of old.me old.nodes) = search rules in
     record {
-      ok = turn old c.end-room.new.self c.begin-entered.new.self c.args.mode c.push_turn.new.sends.items c.begin-entered.result inside c.requires.number_left c.end-room.ensures.ended are c.begin-entered.ensures;
+      ok = turn old c.end-room.new.self c.begin-entered.new.self c.args.mode c.push_turn.new.sends.items c.begin-entered.result inside c.requires.number_left (c.end-room.ensures.inside (c.is_inside.ensures.value.0 c.if-not-is_inside.false)) are c.begin-entered.ensures;
       not_held = search rules;
       err = tt;
     }
 
 pub returns-clause-consistent : goal.returns-clause-consistent
 returns-clause-consistent c =
-    let ended = c.end-room.ensures.ended in
+    let ended = (c.end-room.ensures.inside (c.is_inside.ensures.value.0 c.if-not-is_inside.false)) in
     let inside = c.is_inside.ensures.value.0 c.if-not-is_inside.false in
     let between = subst IsConsistent (sym ended) (consistent_end c.args.self.now c.is_inside.ensures.consistent inside) in
     consistent_begins c.end-room.new.self c.args.mode c.begin-entered.result c.begin-entered.new.self between (ap (λ (s : State). s.phase) ended) c.begin-entered.ensures
 
 pub begin-entered-requires-clause-room : goal.begin-entered-requires-clause-room
-begin-entered-requires-clause-room c = c.end-room.ensures.room ∙ sym (ap (λ (s : State). nobody_of s.nodes) c.end-room.ensures.ended)
+begin-entered-requires-clause-room c = c.end-room.ensures.room ∙ sym (ap (λ (s : State). nobody_of s.nodes) (c.end-room.ensures.inside (c.is_inside.ensures.value.0 c.if-not-is_inside.false)))
 
 -- ---- It is refused, and nothing changes
 
@@ -71,7 +71,7 @@ returns-then-is_err-clause-left c =
     record { ok = tt; not_held = (λ e. absurd (memory_apart e), λ outside. absurd (outside inside)); err = refl }
 
 pub end-room-requires : goal.end-room-requires
-end-room-requires c = c.is_inside.ensures.value.0 c.if-not-is_inside.false
+end-room-requires c = inside_is_busy c.args.self.now.phase (c.is_inside.ensures.value.0 c.if-not-is_inside.false)
 
 pub begin-entered-requires-clause-number_left : goal.begin-entered-requires-clause-number_left
-begin-entered-requires-clause-number_left c = subst (λ (s : State). s.highest < greatest_number) (sym c.end-room.ensures.ended) c.requires.number_left
+begin-entered-requires-clause-number_left c = subst (λ (s : State). s.highest < greatest_number) (sym (c.end-room.ensures.inside (c.is_inside.ensures.value.0 c.if-not-is_inside.false))) c.requires.number_left

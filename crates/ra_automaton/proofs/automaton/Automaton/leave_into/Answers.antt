@@ -5,7 +5,7 @@ use Rattle.ra_automaton.specs.declared.error.LeaveError.TheVariants.{Memory, Not
 use Rattle.std.specs.FinMap as finmap
 use Rattle.ra_stamp.specs.declared.message.Message.TheVariants.{Reply}
 use Rattle.ra_automaton.specs.State.{IsConsistent, IsInside}
-use Rattle.ra_automaton.proofs.Consistent.{consistent_end, inside_is}
+use Rattle.ra_automaton.proofs.Consistent.{consistent_end, inside_is, inside_is_busy}
 use Rattle.ra_automaton.proofs.automaton.Automaton.leave_into.Goals as goal
 
 pub returns-clause-left : goal.returns-clause-left
@@ -14,13 +14,13 @@ returns-clause-left c =
     let held = inside_is old.phase (c.is_inside.ensures.value.0 c.if-not-is_inside.false) in
     let are : c.push_replies.new.sends.items ≡ map (λ entry. Reply old.me entry.0 old.name entry.1) (finmap.entries old.deferred) = search rules in
     record {
-      ok = (record { seq = held.0; mode = held.1; inside = held.2; sends_are = are; new_is = c.end.ensures.ended }, refl);
+      ok = (record { seq = held.0; mode = held.1; inside = held.2; sends_are = are; new_is = (c.end.ensures.inside (c.is_inside.ensures.value.0 c.if-not-is_inside.false)) }, refl);
       not_held = search rules;
       err = tt;
     }
 
 pub returns-clause-consistent : goal.returns-clause-consistent
-returns-clause-consistent c = subst IsConsistent (sym c.end.ensures.ended) (consistent_end c.args.self.now c.is_inside.ensures.consistent (c.is_inside.ensures.value.0 c.if-not-is_inside.false))
+returns-clause-consistent c = subst IsConsistent (sym (c.end.ensures.inside (c.is_inside.ensures.value.0 c.if-not-is_inside.false))) (consistent_end c.args.self.now c.is_inside.ensures.consistent (c.is_inside.ensures.value.0 c.if-not-is_inside.false))
 
 -- ---- It is refused, and nothing changes
 
@@ -38,4 +38,4 @@ returns-then-is_err-clause-left c =
     record { ok = tt; not_held = (λ e. absurd (memory_apart e), λ outside. absurd (outside inside)); err = refl }
 
 pub end-requires : goal.end-requires
-end-requires c = c.is_inside.ensures.value.0 c.if-not-is_inside.false
+end-requires c = inside_is_busy c.args.self.now.phase (c.is_inside.ensures.value.0 c.if-not-is_inside.false)

@@ -1,12 +1,12 @@
 use Rattle.std.proofs.Common.{ℕ, ◌≤◌, ◌^◌, refl, sym, ap, subst}
 use Rattle.ra_node.specs.Node.{IsConsistentNode}
-use Rattle.ra_book.specs.Refused.{refusal_of_ask, refusal_of_leave, refusal_of_receive}
+use Rattle.ra_book.specs.Refused.{refusal_of_ask, refusal_of_leave, refusal_of_cancel, refusal_of_receive}
 use Rattle.ra_book.specs.declared.timed_node.TimedNode.TheInside.{Inside}
 use Rattle.ra_book.specs.Timed.{Timed, Refuses, timed_of}
 use Rattle.ra_book.proofs.Running.{not_ok}
-use Rattle.ra_book.proofs.TimedTaking.{NodeTakes, ask_denied, leave_denied, receive_denied, denied, taken, taken_by, fit_at}
+use Rattle.ra_book.proofs.TimedTaking.{NodeTakes, ask_denied, leave_denied, cancel_denied, receive_denied, denied, taken, taken_by, forgets_as, fit_at}
 use Rattle.ra_book.proofs.timed_node.TimedNode.take.Goals as goal
-use Rattle.ra_book.proofs.timed_node.TimedNode.take.Goals.{in-Asked+in_ok-outcome-in-Asked, in-Gave+in_ok-outcome-in-Gave, in-Got+in_ok-outcome-in-Got}
+use Rattle.ra_book.proofs.timed_node.TimedNode.take.Goals.{in-Asked+in_ok-outcome-in-Asked, in-Gave+in_ok-outcome-in-Gave, in-Cancelled+in_ok-outcome-in-Cancelled, in-Forgot, in-Got+in_ok-outcome-in-Got}
 
 -- ---- There is no clock
 
@@ -40,6 +40,18 @@ returns-in_err-outcome-in-Gave-clause-taken c =
 pub returns-in_err-outcome-in-Gave-clause-fits : goal.returns-in_err-outcome-in-Gave-clause-fits
 returns-in_err-outcome-in-Gave-clause-fits c = not_ok _ _ c.from_residual-in_err-outcome-in-Gave.result c.from_residual-in_err-outcome-in-Gave.ensures.1
 
+pub returns-in_err-outcome-in-Cancelled-clause-taken : goal.returns-in_err-outcome-in-Cancelled-clause-taken
+returns-in_err-outcome-in-Cancelled-clause-taken c =
+    let at = timed_of c.self.inside in
+    let refused = c.in_err-outcome-in-Cancelled in
+    let e = refused.field-0.0 in
+    denied c.args.self.now at c.args.kind.now c.self.view_is _ (refusal_of_cancel e) refused.ensures.cancelled.err
+    (cancel_denied at.node c.args.kind.now _ _ _ c.in-Cancelled.is e refused.ensures.cancelled)
+    (subst (λ (k : ℕ). k ≤ 2 ^ 62) c.in-Ok.ensures.0 c.in-Ok.ensures.1) c.from_residual-in_err-outcome-in-Cancelled.result c.from_residual-in_err-outcome-in-Cancelled.ensures.1
+
+pub returns-in_err-outcome-in-Cancelled-clause-fits : goal.returns-in_err-outcome-in-Cancelled-clause-fits
+returns-in_err-outcome-in-Cancelled-clause-fits c = not_ok _ _ c.from_residual-in_err-outcome-in-Cancelled.result c.from_residual-in_err-outcome-in-Cancelled.ensures.1
+
 pub returns-in_err-outcome-in-Got-clause-taken : goal.returns-in_err-outcome-in-Got-clause-taken
 returns-in_err-outcome-in-Got-clause-taken c =
     let at = timed_of c.self.inside in
@@ -59,6 +71,8 @@ invariant_of-self-2 c =
     elim c.match-kind.branch [
       | in-Asked+in_ok-outcome-in-Asked w ↦ subst IsConsistentNode (sym (ap (λ (t : Inside). t.node) w.self-inside-is)) w.ask.ensures.consistent
       | in-Gave+in_ok-outcome-in-Gave w ↦ subst IsConsistentNode (sym (ap (λ (t : Inside). t.node) w.self-inside-is)) w.leave.ensures.consistent
+      | in-Cancelled+in_ok-outcome-in-Cancelled w ↦ subst IsConsistentNode (sym (ap (λ (t : Inside). t.node) w.self-inside-is)) w.cancel.ensures.consistent
+      | in-Forgot w ↦ subst IsConsistentNode (sym (ap (λ (t : Inside). t.node) w.self-inside-is)) w.forget.ensures.consistent
       | in-Got+in_ok-outcome-in-Got w ↦ subst IsConsistentNode (sym (ap (λ (t : Inside). t.node) w.self-inside-is)) w.receive.ensures.consistent
     ]
 
@@ -67,6 +81,9 @@ takes c =
     elim c.match-kind.branch [
       | in-Asked+in_ok-outcome-in-Asked w ↦ taken_by _ _ _ _ _ _ _ w.in-Asked.is w.outcome-is (ap (λ (t : Inside). t.node) w.self-inside-is) tt w.in_ok-outcome-in-Asked.ensures.ok
       | in-Gave+in_ok-outcome-in-Gave w ↦ taken_by _ _ _ _ _ _ _ w.in-Gave.is w.outcome-is (ap (λ (t : Inside). t.node) w.self-inside-is) tt w.in_ok-outcome-in-Gave.ensures.left.ok
+      | in-Cancelled+in_ok-outcome-in-Cancelled w ↦ taken_by _ _ _ _ _ _ _ w.in-Cancelled.is w.outcome-is (ap (λ (t : Inside). t.node) w.self-inside-is) tt w.in_ok-outcome-in-Cancelled.ensures.cancelled.ok
+      | in-Forgot w ↦ taken_by _ _ _ _ _ _ _ w.in-Forgot.is w.outcome-is (ap (λ (t : Inside). t.node) w.self-inside-is) tt
+          (forgets_as c.self.inside.node w.forget.new.self w.new.result.items w.new-in-Forgot.result.items w.new.ensures w.new-in-Forgot.ensures w.forget.ensures.forgotten)
       | in-Got+in_ok-outcome-in-Got w ↦ taken_by _ _ _ _ _ _ _ w.in-Got.is w.outcome-is (ap (λ (t : Inside). t.node) w.self-inside-is) (w.in_ok-outcome-in-Got.ensures.allowed.0 tt) w.in_ok-outcome-in-Got.ensures.ok
     ]
 

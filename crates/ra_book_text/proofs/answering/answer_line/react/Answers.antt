@@ -13,14 +13,14 @@ returns-in-Ok-take-clause-reacts c text kept =
     let whole : c.args.line.now.bytes.items ≡ text = rw c.if-line.false at kept in
     let slice : c.as_slice.result.now ≡ c.args.line.now.bytes.items = search rules in
     let event = subst (λ (t : List ℕ). IsEvent t c.in-Ok.kind) (slice ∙ whole) c.in-Ok.ensures.read in
-    reacts _ _ text c.in-Ok.kind c.in-Ok-take.outcome event c.in-Ok-take.ensures.taken
+    reacts c.args.version _ _ text c.in-Ok.kind c.in-Ok-take.outcome (c.allows.ensures.0 c.if-not-allows.false, event) c.in-Ok-take.ensures.taken
 
 pub returns-in-Err-take-clause-reacts : goal.returns-in-Err-take-clause-reacts
 returns-in-Err-take-clause-reacts c text kept =
     let whole : c.args.line.now.bytes.items ≡ text = rw c.if-line.false at kept in
     let slice : c.as_slice.result.now ≡ c.args.line.now.bytes.items = search rules in
     let event = subst (λ (t : List ℕ). IsEvent t c.in-Ok.kind) (slice ∙ whole) c.in-Ok.ensures.read in
-    stays _ _ text c.in-Ok.kind c.in-Err-take.cause event c.in-Err-take.ensures.taken
+    stays c.args.version _ _ text c.in-Ok.kind c.in-Err-take.cause (c.allows.ensures.0 c.if-not-allows.false, event) c.in-Err-take.ensures.taken
 
 pub returns-in-Err-clause-reacts : goal.returns-in-Err-clause-reacts
 returns-in-Err-clause-reacts c text kept =

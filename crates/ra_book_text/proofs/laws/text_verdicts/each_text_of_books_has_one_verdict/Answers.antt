@@ -6,6 +6,7 @@ returns-clause-fit c = λ repeats text line cause.
     fit_not_wrong (record {
       lines = c.texts_of_books_are_read_in_one_way.ensures.lines;
       books = c.texts_of_books_are_read_in_one_way.ensures.books;
+      version = c.texts_of_books_are_read_in_one_way.ensures.version;
       right = c.texts_of_books_are_read_in_one_way.ensures.right;
       apart = c.texts_of_books_are_read_in_one_way.ensures.cause;
     }) text repeats line cause
@@ -15,6 +16,7 @@ returns-clause-wrong c = λ repeats text line other cause why.
     one_wrong (record {
       lines = c.texts_of_books_are_read_in_one_way.ensures.lines;
       books = c.texts_of_books_are_read_in_one_way.ensures.books;
+      version = c.texts_of_books_are_read_in_one_way.ensures.version;
       right = c.texts_of_books_are_read_in_one_way.ensures.right;
       apart = c.texts_of_books_are_read_in_one_way.ensures.cause;
     }) text repeats line other cause why

@@ -1,5 +1,4 @@
 use Rattle.std.proofs.Common.{codes, sym, ◌∙◌}
-use Rattle.std.proofs.lemmas.Option.{none-some}
 use Rattle.ra_trace.proofs.Cuts.{rest_after-only}
 use Rattle.ra_book_text.proofs.Forms.{ask_some, ask_none, release_some, release_none, no_words}
 use Rattle.ra_book_text.proofs.next_line.event_line.event_of.Goals as goal
@@ -23,7 +22,7 @@ returns-in-Some-read-clause-read c =
           let rest = w.in-Some-rest_after-2.rest.now in
           release_some rest kind (sym w.release_of.ensures ∙ sym w.read-is ∙ c.in-Some-read.is) line
           (rest_after-only (codes "release ") line rest (rw w.in-Some-rest_after-2.is at w.rest_after-in_default-rest_after.ensures)) c.if-line-gt-MAX_LINE.false
-      | in_default-rest_after+in_default-rest_after-2 w ↦ absurd (none-some _ (sym w.read-is ∙ c.in-Some-read.is))
+      | in_default-rest_after+in_default-rest_after-2 w ↦ rw (sym w.read-is ∙ c.in-Some-read.is) at w.later_event_of.ensures
     ]
 
 pub returns-in-None-clause-read : goal.returns-in-None-clause-read
@@ -40,5 +39,5 @@ returns-in-None-clause-read c =
           (rest_after-only (codes "release ") line rest (rw w.in-Some-rest_after-2.is at w.rest_after-in_default-rest_after.ensures))
       | in_default-rest_after+in_default-rest_after-2 w ↦
           no_words line (rw c.in_default.is at c.rest_after.ensures) (rw w.in_default-rest_after.is at c.rest_after-2.ensures)
-          (rw w.in_default-rest_after-2.is at w.rest_after-in_default-rest_after.ensures)
+          (rw w.in_default-rest_after-2.is at w.rest_after-in_default-rest_after.ensures) (rw (sym w.read-is ∙ c.in-None.is) at w.later_event_of.ensures)
     ]

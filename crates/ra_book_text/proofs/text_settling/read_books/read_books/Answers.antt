@@ -25,7 +25,7 @@ returns c =
     let first = c.in-Some-parse.first in
     let is : text ≡ line ++ 10 ∷ rest = rw c.in-Some.is at c.cut.ensures.cut in
     c.in_ok-next.ensures text line (one_more text [] text line rest (nothing text) is c.cut.ensures.before)
-    (begun (record { earlier = c.in_ok-earlier.earlier; last = c.of-last.result; came = c.new.result }) line first.member.node first.member.nodes first.start
+    (begun (record { earlier = c.in_ok-earlier.earlier; last = c.of-last.result; version = first.version; came = c.new.result }) line first.member.node first.member.nodes first.start
     c.in-Some-parse.ensures c.in_ok-earlier.ensures.items c.of-last.ensures.value c.new.ensures c.of-last.ensures.history
     (omega (arith, c.in_ok-earlier.ensures.len, c.in_ok-earlier.ensures.exact)))
 
@@ -39,7 +39,7 @@ returns-in_err-next c =
     let is : text ≡ line ++ 10 ∷ rest = rw c.in-Some.is at c.cut.ensures.cut in
     unread_by _ true text c.in_err-next.field-0.0
     (c.in_err-next.ensures text line (one_more text [] text line rest (nothing text) is c.cut.ensures.before)
-    (begun (record { earlier = c.in_ok-earlier.earlier; last = c.of-last.result; came = c.new.result }) line first.member.node first.member.nodes first.start
+    (begun (record { earlier = c.in_ok-earlier.earlier; last = c.of-last.result; version = first.version; came = c.new.result }) line first.member.node first.member.nodes first.start
     c.in-Some-parse.ensures c.in_ok-earlier.ensures.items c.of-last.ensures.value c.new.ensures c.of-last.ensures.history
     (omega (arith, c.in_ok-earlier.ensures.len, c.in_ok-earlier.ensures.exact))))
     passed.result passed.ensures.1

@@ -18,6 +18,22 @@ returns-in_err-leave-in-Gave c =
     ((λ apart can. apart (refused.ensures.allowed.1 (rw c.in-Gave.is at can))), (λ is. rw c.in-Gave.is (refused.ensures.allowed.0 is)))
     passed.result passed.ensures.1
 
+pub returns-in_err-cancel-in-Cancelled : goal.returns-in_err-cancel-in-Cancelled
+returns-in_err-cancel-in-Cancelled c =
+    let refused = c.in_err-cancel-in-Cancelled in
+    let passed = c.from_residual-in_err-cancel-in-Cancelled in
+    refused_by c.args.book.now c.args.kind.now _ refused.field-0.0
+    ((λ apart can. apart (refused.ensures.allowed.1 (rw c.in-Cancelled.is at can))), (λ is. rw c.in-Cancelled.is (refused.ensures.allowed.0 is)))
+    passed.result passed.ensures.1
+
+pub returns-in_err-forget-in-Forgot : goal.returns-in_err-forget-in-Forgot
+returns-in_err-forget-in-Forgot c =
+    let refused = c.in_err-forget-in-Forgot in
+    let passed = c.from_residual-in_err-forget-in-Forgot in
+    refused_by c.args.book.now c.args.kind.now _ refused.field-0.0
+    ((λ apart can. apart (refused.ensures.allowed.1 (rw c.in-Forgot.is at can))), (λ is. rw c.in-Forgot.is (refused.ensures.allowed.0 is)))
+    passed.result passed.ensures.1
+
 pub returns-in_err-receive-in-Got : goal.returns-in_err-receive-in-Got
 returns-in_err-receive-in-Got c =
     let refused = c.in_err-receive-in-Got in

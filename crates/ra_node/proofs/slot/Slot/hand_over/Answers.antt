@@ -2,6 +2,7 @@ use Rattle.std.proofs.Common.{◌≡◌, ◌∷◌, [], List, ◌++◌, sym, ap,
 use Rattle.ra_stamp.specs.declared.entry.Entry.{Entry}
 use Rattle.ra_stamp.specs.declared.entry.Mark.{Mark}
 use Rattle.ra_stamp.specs.declared.entry.Mark.TheVariants.{Left}
+use Rattle.ra_automaton.specs.Steps.{LeaveStep}
 use Rattle.ra_node.specs.Resource.{Resource, clients_of}
 use Rattle.ra_node.specs.Turns.{request_marks, next_entry}
 use Rattle.ra_node.proofs.Distinct.{Once, leaves_once}
@@ -23,6 +24,6 @@ returns-clause-handed c =
     ∙ ap (λ (ms : List Mark). ms ++ request_marks handed.entered c.next_entry-requested.result) first
     ∙ ap (λ (e : Entry). left ++ request_marks handed.entered e) c.next_entry-requested.ensures
     in (
-      parts_handed_over s.automaton c.leave_and_request_into-left.new.self s.client s.queue c.pop_front.new.self c.args.self.now next c.pop_front.result handed.sends.items left c.push_request.new.marks.items handed.entered c.self.view_is c.in-Ok.ensures.left.ok c.requires.first c.pop_front.ensures marks,
+      parts_handed_over LeaveStep s.automaton c.leave_and_request_into-left.new.self s.client s.queue c.pop_front.new.self c.args.self.now next c.pop_front.result handed.sends.items left c.push_request.new.marks.items handed.entered c.self.view_is c.in-Ok.ensures.left.ok c.requires.first c.pop_front.ensures marks,
       c.leave_and_request_into-left.ensures.consistent,
     )

@@ -18,7 +18,9 @@ node c = elim c.match-step.branch [
   | in-Deliver w ↦ ap node_at w.in-Deliver.is ∙ ap (λ (n : ℕ). Some n) (sym (w.node-is ∙ w.to-node.ensures))
   | in-Ask2 w ↦ elim w.in-Ask.is [
     | inl (client, name, mode, is) ↦ ap node_at is ∙ ap (λ (n : ℕ). Some n) (sym w.node-is)
-    | inr (client, name, is) ↦ ap node_at is ∙ ap (λ (n : ℕ). Some n) (sym w.node-is)
+    | inr (inl (client, name, is)) ↦ ap node_at is ∙ ap (λ (n : ℕ). Some n) (sym w.node-is)
+    | inr (inr (inl (client, name, is))) ↦ ap node_at is ∙ ap (λ (n : ℕ). Some n) (sym w.node-is)
+    | inr (inr (inr is)) ↦ ap node_at is ∙ ap (λ (n : ℕ). Some n) (sym w.node-is)
   ]
 ]
 

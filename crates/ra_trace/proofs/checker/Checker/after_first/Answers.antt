@@ -1,7 +1,8 @@
 use Rattle.std.proofs.Common.{◌≡◌, true, refl, sym, ◌∙◌}
 use Rattle.ra_trace.specs.Forms.{has_node}
+use Rattle.ra_trace.specs.Version.{has_sends}
 use Rattle.ra_trace.proofs.TraceLaws.{traces_rest_on_runs}
-use Rattle.ra_trace.proofs.Taking.{opens, opens_not, first_may_come}
+use Rattle.ra_trace.proofs.Taking.{opens, opens_not, nothing_due, first_may_come}
 use Rattle.ra_trace.proofs.checker.Checker.after_first.Goals as goal
 
 pub returns-then-not-has_node-clause-none : goal.returns-then-not-has_node-clause-none
@@ -18,7 +19,7 @@ returns-in-Ok-new-clause-some c =
       world_is = rw c.get.ensures.value at c.in-Ok.ensures.ok;
       run = c.in-Ok.ensures.run;
       table_is = c.in-Ok-new.ensures.empty;
-      none = c.new-in-Ok-new.ensures;
+      none = nothing_due (has_sends c.in-First.version) c.new-in-Ok-new.result.items c.new-in-Ok-new-2.result.items c.new-in-Ok-new.ensures c.new-in-Ok-new-2.ensures;
     }) has)
 
 -- ---- There is no memory for it

@@ -1,9 +1,10 @@
-use Rattle.std.proofs.Common.{◌≡◌, ℕ, List, Option, Some, None, Result, Ok, Err}
-use Rattle.ra_stamp.specs.declared.entry.Mark.{Mark}
-use Rattle.ra_trace.specs.declared.checker.verdict.Cause.TheVariants.{Line, Marks}
+use Rattle.std.proofs.Common.{◌≡◌, ◌⊎◌, ℕ, List, Option, Some, None, Result, Ok, Err, inl, inr}
+use Rattle.ra_trace.specs.declared.checker.verdict.Cause.TheVariants as cause
+use Rattle.ra_trace.specs.declared.checker.verdict.Cause.TheVariants.{Sends, Marks}
 use Rattle.ra_trace.specs.declared.checker.verdict.Verdict.{Verdict}
 use Rattle.ra_trace.specs.declared.checker.verdict.Verdict.TheVariants.{Invalid}
 use Rattle.ra_trace.specs.declared.error.TraceError.{TraceError}
+use Rattle.ra_trace.specs.declared.line.Line.{Line}
 use Rattle.ra_trace.specs.Due.{TellsDue}
 use Rattle.ra_trace.proofs.Inputs.{checked}
 use Rattle.ra_trace.proofs.TraceLaws.{traces_rest_on_runs}
@@ -24,19 +25,22 @@ returns-in-Ok-Some-clause-checks g c =
 pub returns-in-Ok-None-clause-checks : goal.returns-in-Ok-None-clause-checks
 returns-in-Ok-None-clause-checks g c =
     checked 16777216 (g.B.Read.remaining c.args.reader.now) (g.B.Read.remaining c.take_first.new.reader) traces_rest_on_runs (one_verdict traces_rest_on_runs)
-    (Ok (Invalid 1 Line)) (rw c.in-Ok-None.field-0-is at c.in-Ok-None.ensures.opened)
+    (Ok (Invalid 1 cause.Line)) (rw c.in-Ok-None.field-0-is at c.in-Ok-None.ensures.opened)
 
--- a mark is due only if a line is wrong for its marks
-none_due : (old : Option (List ℕ)) (result : Result Verdict TraceError) (mark : Option Mark) → ((line : ℕ) → result ≡ Ok (Invalid line Marks) → ⊥)
-    → TellsDue old result mark
-none_due None result mark not = tt
-none_due (Some input) result mark not = λ line is. absurd (not line is)
+-- the result is that this line is wrong for its sends or its marks
+abbrev IsForDue : Result Verdict TraceError → ℕ → Type 0
+IsForDue result line = (result ≡ Ok (Invalid line Sends)) ⊎ (result ≡ Ok (Invalid line Marks))
 
-no_verdict : (fault : TraceError) (line : ℕ) → ◌≡◌ {A = Result Verdict TraceError} (Err fault) (Ok (Invalid line Marks)) → ⊥
-no_verdict fault line e = cc
+-- a line is due only there
+none_due : (old : Option (List ℕ)) (result : Result Verdict TraceError) (next : Option Line) → ((line : ℕ) → IsForDue result line → ⊥) → TellsDue old result next
+none_due None result next not = tt
+none_due (Some input) result next not = λ line is. absurd (not line is)
 
-other_cause : (line : ℕ) → ◌≡◌ {A = Result Verdict TraceError} (Ok (Invalid 1 Line)) (Ok (Invalid line Marks)) → ⊥
-other_cause line e = cc
+no_verdict : (fault : TraceError) (line : ℕ) → IsForDue (Err fault) line → ⊥
+no_verdict fault line which = elim which [ inl is ↦ cc | inr is ↦ cc ]
+
+other_cause : (line : ℕ) → IsForDue (Ok (Invalid 1 cause.Line)) line → ⊥
+other_cause line which = elim which [ inl is ↦ cc | inr is ↦ cc ]
 
 pub returns-in-Err-clause-due : goal.returns-in-Err-clause-due
 returns-in-Err-clause-due g c =
@@ -44,7 +48,7 @@ returns-in-Err-clause-due g c =
 
 pub returns-in-Ok-None-clause-due : goal.returns-in-Ok-None-clause-due
 returns-in-Ok-None-clause-due g c =
-    none_due (g.B.Read.remaining c.args.reader.now) (Ok (Invalid 1 Line)) _ (λ line is. other_cause line is)
+    none_due (g.B.Read.remaining c.args.reader.now) (Ok (Invalid 1 cause.Line)) _ (λ line is. other_cause line is)
 
 pub returns-in-Ok-Some-clause-due : goal.returns-in-Ok-Some-clause-due
 returns-in-Ok-Some-clause-due g c =

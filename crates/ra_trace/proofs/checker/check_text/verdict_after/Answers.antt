@@ -1,4 +1,5 @@
-use Rattle.std.proofs.Common.{◌+◌, ◌-◌, ◌∙◌}
+use Rattle.std.proofs.Common.{◌+◌, ◌-◌, slice_get, ap, ◌∙◌}
+use Rattle.ra_trace.specs.Verdict.{Due, due_lines}
 use Rattle.ra_trace.proofs.Along.{answers_at_end, right_turns, some_taken, at_first, few_taken, fewer_left, still_short}
 use Rattle.ra_trace.proofs.Telling.{tells_at, none_at_end, none_at_fault}
 use Rattle.ra_trace.proofs.checker.check_text.verdict_after.Goals as goal
@@ -55,8 +56,9 @@ returns-in-Err-clause-due g c old first =
 
 pub returns-in-Wrong-clause-due : goal.returns-in-Wrong-clause-due
 returns-in-Wrong-clause-due g c old first =
-    tells_at c.args.limit c.loop-next.left old (g.R.Read.remaining c.loop-next.reader) c.loop-next.checker c.loop-next.number c.in-Wrong.cause c.at.result
-    (c.loop-next.invariant.along old first) (c.at.ensures ∙ c.in-Ok.ensures.due c.in-Wrong.cause c.in-Wrong.is)
+    tells_at c.args.limit c.loop-next.left old (g.R.Read.remaining c.loop-next.reader) c.loop-next.checker c.loop-next.number c.in-Wrong.cause c.next_due.result
+    (c.loop-next.invariant.along old first)
+    (c.next_due.ensures ∙ ap (λ (due : Due). slice_get (due_lines due) 0) (c.in-Ok.ensures.due c.in-Wrong.cause c.in-Wrong.is))
 
 pub returns-in-Last-clause-due : goal.returns-in-Last-clause-due
 returns-in-Last-clause-due g c old first =

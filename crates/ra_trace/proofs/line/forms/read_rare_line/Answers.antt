@@ -11,21 +11,27 @@ returns-in-Some c =
 pub returns-in-Some-rest_after : goal.returns-in-Some-rest_after
 returns-in-Some-rest_after c =
     c.read-in-Some-rest_after.ensures
-    ∙ sym (by_others (form 7) (drop 8 forms) c.args.text.now c.in_default.ensures ∙ by_form (form 8) (drop 9 forms) c.args.text.now c.in-Some-rest_after.rest.now c.in-Some-rest_after.ensures)
+    ∙ sym (by_others (form 7) (drop 8 forms) c.args.text.now c.in_default.ensures
+    ∙ by_form (form 8) (drop 9 forms) c.args.text.now c.in-Some-rest_after.rest.now c.in-Some-rest_after.ensures)
 
 pub returns-in-Some-rest_after-2 : goal.returns-in-Some-rest_after-2
 returns-in-Some-rest_after-2 c =
     c.read-in-Some-rest_after-2.ensures
-    ∙ sym (by_others (form 7) (drop 8 forms) c.args.text.now c.in_default.ensures ∙ by_others (form 8) (drop 9 forms) c.args.text.now c.in_default-rest_after.ensures ∙ by_form (form 9) (drop 10 forms) c.args.text.now c.in-Some-rest_after-2.rest.now c.in-Some-rest_after-2.ensures)
+    ∙ sym (by_others (form 7) (drop 8 forms) c.args.text.now c.in_default.ensures
+    ∙ by_others (form 8) (drop 9 forms) c.args.text.now c.in_default-rest_after.ensures
+    ∙ by_form (form 9) (drop 10 forms) c.args.text.now c.in-Some-rest_after-2.rest.now c.in-Some-rest_after-2.ensures)
 
 pub returns-in-Some-rest_after-3 : goal.returns-in-Some-rest_after-3
 returns-in-Some-rest_after-3 c =
     c.read-in-Some-rest_after-3.ensures
-    ∙ sym (by_others (form 7) (drop 8 forms) c.args.text.now c.in_default.ensures ∙ by_others (form 8) (drop 9 forms) c.args.text.now c.in_default-rest_after.ensures ∙ by_others (form 9) (drop 10 forms) c.args.text.now c.in_default-rest_after-2.ensures ∙ by_form (form 10) (drop 11 forms) c.args.text.now c.in-Some-rest_after-3.rest.now c.in-Some-rest_after-3.ensures)
+    ∙ sym (by_others (form 7) (drop 8 forms) c.args.text.now c.in_default.ensures
+    ∙ by_others (form 8) (drop 9 forms) c.args.text.now c.in_default-rest_after.ensures
+    ∙ by_others (form 9) (drop 10 forms) c.args.text.now c.in_default-rest_after-2.ensures
+    ∙ by_form (form 10) (drop 11 forms) c.args.text.now c.in-Some-rest_after-3.rest.now c.in-Some-rest_after-3.ensures)
 
 pub returns : goal.returns
 returns c =
-    c.read_end_line.ensures
+    c.read_third_line.ensures
     ∙ sym (by_others (form 7) (drop 8 forms) c.args.text.now c.in_default.ensures
     ∙ by_others (form 8) (drop 9 forms) c.args.text.now c.in_default-rest_after.ensures
     ∙ by_others (form 9) (drop 10 forms) c.args.text.now c.in_default-rest_after-2.ensures

@@ -11,6 +11,7 @@ use Rattle.ra_trace.proofs.mark_log.MarkLog.take_line.Goals as goal
 no_mark : (old new : MarkLog) (given : Line) → ((mark : Mark) → given ≡ line.Marked mark → ⊥) → JudgedLine old given new (Ok (Wrong cause.Line))
 no_mark old new (line.First version nodes start) not = refl
 no_mark old new (line.Stepped step) not = refl
+no_mark old new (line.Sent message) not = refl
 no_mark old new (line.Marked mark) not = absurd (not mark refl)
 no_mark old new line.Last not = refl
 

@@ -27,6 +27,7 @@ returns-clause-figures c marks are =
       under_way = c.from.result;
       lost = c.from-2.result;
       repeated = c.from-3.result;
+      withdrawn = c.counts-counts.result.withdrawn;
       waiting = c.waiting_at.result;
       queued = c.queued_at.result;
     } in
@@ -34,7 +35,7 @@ returns-clause-figures c marks are =
     subst (λ (s : WorldState). Reports s.count s.start s.moves (report_with figures marks)) c.self.view_is
     (reported w.start w.nodes.items w.kept.under_way.items w.kept.log.moves (report_with figures marks) c.self.invariant kept_runs_go_on.at_all
     kept c.counts-counts.ensures.sent c.counts-counts.ensures.requests
-    (c.from.ensures ∙ c.len-2.ensures) (c.from-2.ensures ∙ c.counts-counts.ensures.lost) (c.from-3.ensures ∙ c.counts-counts.ensures.repeated)
+    (c.from.ensures ∙ c.len-2.ensures) (c.from-2.ensures ∙ c.counts-counts.ensures.lost) (c.from-3.ensures ∙ c.counts-counts.ensures.repeated) c.counts-counts.ensures.withdrawn
     (c.waiting_at.ensures ∙ ap (sum_by waiting_count) c.deref.ensures.value)
     (c.queued_at.ensures ∙ ap (sum_by queued_count) c.deref-2.ensures.value))
 

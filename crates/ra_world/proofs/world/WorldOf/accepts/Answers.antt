@@ -1,19 +1,19 @@
-use Rattle.std.proofs.Common.{◌≡◌, ◌↔◌, ◌<◌, ℕ, ◌⊎◌, Bool, false, Contains, length, refl, ap, sym, subst, arith, rules}
-use Rattle.std.specs.Prelude.{IsTrue}
+use Rattle.std.proofs.Common.{◌≡◌, ◌↔◌, ◌<◌, ℕ, ◌+◌, List, ◌⊎◌, Bool, false, Contains, length, refl, ap, sym, subst, arith, rules}
+use Rattle.std.specs.Prelude.{IsTrue, IfSome, IsNone}
 use Rattle.ra_stamp.specs.declared.entry.Entry.{Entry}
 use Rattle.ra_stamp.specs.declared.message.Message.{Message}
 use Rattle.ra_stamp.specs.NodeId.{IsNodeNumber}
 use Rattle.ra_node.specs.Node.{NodeState, resource_at}
-use Rattle.ra_node.specs.Resource.{Holds}
+use Rattle.ra_node.specs.Resource.{Holds, IsKeptWaiting}
 use Rattle.ra_node.specs.Turns.{MayAsk}
 use Rattle.ra_world.specs.declared.step.Step.{Step}
-use Rattle.ra_world.specs.declared.step.Step.TheVariants.{Ask, Leave, Deliver, Lose, Repeat}
+use Rattle.ra_world.specs.declared.step.Step.TheVariants.{Ask, Leave, Cancel, Forget, Deliver, Lose, Repeat}
 use Rattle.ra_world.specs.Run.{IsRun, GoesOn}
 use Rattle.ra_world.specs.World.{WorldState}
 use Rattle.ra_world.specs.Keeping.{nodes_of}
-use Rattle.ra_world.proofs.Worlds.{accepted_at, accepted_message, refused_above}
-use Rattle.ra_world.proofs.GoingOn.{ask_goes_on, leave_goes_on}
-use Rattle.ra_world.proofs.WorldLaws.{laws_below, kept_runs_go_on, deliver_allowed, lose_allowed, repeat_allowed}
+use Rattle.ra_world.proofs.Worlds.{accepted_at, accepted_there, accepted_message, refused_above}
+use Rattle.ra_world.proofs.GoingOn.{ask_goes_on, leave_goes_on, cancel_goes_on}
+use Rattle.ra_world.proofs.WorldLaws.{laws_below, kept_runs_go_on, deliver_allowed, forget_allowed, lose_allowed, repeat_allowed}
 use Rattle.ra_world.proofs.world.WorldOf.accepts.Goals as goal
 
 -- ---- An ask
@@ -73,6 +73,51 @@ returns-in-None-place_of-clause-value g c =
     (subst (λ (s : Step). IsTrue false ↔ GoesOn (length w.nodes.items) w.start w.kept.log.moves s) (sym leave.is)
     (refused_above (length w.nodes.items) w.start w.kept.log.moves step leave.node _ law above))
 
+-- ---- A cancel
+
+pub returns-in-Some-place_of-2-clause-value : goal.returns-in-Some-place_of-2-clause-value
+returns-in-Some-place_of-2-clause-value g c =
+    let w = c.self.inside in
+    let k = c.self.invariant in
+    let cancel = c.in-Cancel in
+    let step = Cancel cancel.node cancel.client cancel.name in
+    let law = cancel_goes_on laws_below (length w.nodes.items) w.start w.kept.log.moves (nodes_of w.nodes.items) k.count k.run k.ends cancel.node cancel.client cancel.name in
+    let within : c.in-Some-place_of-2.place < length w.nodes.items = omega (arith, c.in-Some-place_of-2.ensures.some.1, ap length c.deref-in-Cancel.ensures.value) in
+    subst (λ (s : WorldState). IsTrue c.is_kept_waiting.result ↔ GoesOn s.count s.start s.moves c.args.step.now) c.self.view_is
+    (subst (λ (s : Step). IsTrue c.is_kept_waiting.result ↔ GoesOn (length w.nodes.items) w.start w.kept.log.moves s) (sym cancel.is)
+    (accepted_at w.start w.nodes.items w.kept.log.moves step c.in-Some-place_of-2.place cancel.node c.index-in-Some-place_of-2.result.now
+    (λ (n : NodeState). IsKeptWaiting (resource_at n cancel.name) cancel.client) c.is_kept_waiting.result
+    law c.in-Some-place_of-2.ensures.some.0 within c.index-in-Some-place_of-2.ensures c.is_kept_waiting.ensures.kept))
+
+pub returns-in-None-place_of-2-clause-value : goal.returns-in-None-place_of-2-clause-value
+returns-in-None-place_of-2-clause-value g c =
+    let w = c.self.inside in
+    let k = c.self.invariant in
+    let cancel = c.in-Cancel in
+    let step = Cancel cancel.node cancel.client cancel.name in
+    let law = cancel_goes_on laws_below (length w.nodes.items) w.start w.kept.log.moves (nodes_of w.nodes.items) k.count k.run k.ends cancel.node cancel.client cancel.name in
+    let above : length w.nodes.items < cancel.node = omega (arith, c.in-None-place_of-2.ensures.none.0 refl, ap length c.deref-in-Cancel.ensures.value) in
+    subst (λ (s : WorldState). IsTrue false ↔ GoesOn s.count s.start s.moves c.args.step.now) c.self.view_is
+    (subst (λ (s : Step). IsTrue false ↔ GoesOn (length w.nodes.items) w.start w.kept.log.moves s) (sym cancel.is)
+    (refused_above (length w.nodes.items) w.start w.kept.log.moves step cancel.node _ law above))
+
+-- ---- To forget
+
+pub returns-in-Forget-clause-value : goal.returns-in-Forget-clause-value
+returns-in-Forget-clause-value g c =
+    let w = c.self.inside in
+    let k = c.self.invariant in
+    let forget = c.in-Forget in
+    let found = c.place_of-in-Forget.result in
+    let lent = c.deref-in-Forget.ensures.value in
+    subst (λ (s : WorldState). IsTrue c.is_some.result ↔ GoesOn s.count s.start s.moves c.args.step.now) c.self.view_is
+    (subst (λ (s : Step). IsTrue c.is_some.result ↔ GoesOn (length w.nodes.items) w.start w.kept.log.moves s) (sym forget.is)
+    (accepted_there (length w.nodes.items) w.start w.kept.log.moves (Forget forget.node) forget.node found c.is_some.result
+    (forget_allowed (length w.nodes.items) w.start w.kept.log.moves k.count k.run forget.node)
+    (subst (λ (ns : List NodeState). IfSome found (λ place. (place + 1 ≡ forget.node) × (place < length ns))) lent c.place_of-in-Forget.ensures.some)
+    (subst (λ (ns : List NodeState). IsNone found ↔ (length ns < forget.node)) lent c.place_of-in-Forget.ensures.none)
+    c.is_some.ensures))
+
 -- ---- A message
 
 pub returns-in-Deliver-clause-value : goal.returns-in-Deliver-clause-value
@@ -116,6 +161,24 @@ returns-in-None-place_of-clause-run g c = subst (λ (s : WorldState). IsRun s.co
 pub returns-in-None-place_of-clause-count : goal.returns-in-None-place_of-clause-count
 returns-in-None-place_of-clause-count g c = subst (λ (s : WorldState). IsNodeNumber s.count) c.self.view_is c.self.invariant.count
 
+pub returns-in-Some-place_of-2-clause-run : goal.returns-in-Some-place_of-2-clause-run
+returns-in-Some-place_of-2-clause-run g c = subst (λ (s : WorldState). IsRun s.count s.start s.moves) c.self.view_is c.self.invariant.run
+
+pub returns-in-Some-place_of-2-clause-count : goal.returns-in-Some-place_of-2-clause-count
+returns-in-Some-place_of-2-clause-count g c = subst (λ (s : WorldState). IsNodeNumber s.count) c.self.view_is c.self.invariant.count
+
+pub returns-in-None-place_of-2-clause-run : goal.returns-in-None-place_of-2-clause-run
+returns-in-None-place_of-2-clause-run g c = subst (λ (s : WorldState). IsRun s.count s.start s.moves) c.self.view_is c.self.invariant.run
+
+pub returns-in-None-place_of-2-clause-count : goal.returns-in-None-place_of-2-clause-count
+returns-in-None-place_of-2-clause-count g c = subst (λ (s : WorldState). IsNodeNumber s.count) c.self.view_is c.self.invariant.count
+
+pub returns-in-Forget-clause-run : goal.returns-in-Forget-clause-run
+returns-in-Forget-clause-run g c = subst (λ (s : WorldState). IsRun s.count s.start s.moves) c.self.view_is c.self.invariant.run
+
+pub returns-in-Forget-clause-count : goal.returns-in-Forget-clause-count
+returns-in-Forget-clause-count g c = subst (λ (s : WorldState). IsNodeNumber s.count) c.self.view_is c.self.invariant.count
+
 pub returns-in-Deliver-clause-run : goal.returns-in-Deliver-clause-run
 returns-in-Deliver-clause-run g c = subst (λ (s : WorldState). IsRun s.count s.start s.moves) c.self.view_is c.self.invariant.run
 
@@ -127,3 +190,6 @@ index-requires g c = subst (λ (n : ℕ). c.in-Some.place < n) c.deref.ensures.l
 
 pub index-requires-in-Some-place_of : goal.index-requires-in-Some-place_of
 index-requires-in-Some-place_of g c = subst (λ (n : ℕ). c.in-Some-place_of.place < n) c.deref-in-Leave.ensures.len c.in-Some-place_of.ensures.some.1
+
+pub index-requires-in-Some-place_of-2 : goal.index-requires-in-Some-place_of-2
+index-requires-in-Some-place_of-2 g c = subst (λ (n : ℕ). c.in-Some-place_of-2.place < n) c.deref-in-Cancel.ensures.len c.in-Some-place_of-2.ensures.some.1

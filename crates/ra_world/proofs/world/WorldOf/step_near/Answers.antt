@@ -19,6 +19,13 @@ returns-in-Leave g c =
     (kept_run w.start w.nodes.items w.kept.under_way.items w.kept.log.moves c.args.self.now c.self.invariant c.self.view_is) c.leave.ensures.run
     c.leave.result (subst (λ (s : Step). Tries c.args.self.now s c.leave.result c.leave.new.self) (sym c.in-Leave.is) c.leave.ensures.tried) c.leave.ensures.count
 
+pub returns-in-Cancel : goal.returns-in-Cancel
+returns-in-Cancel g c =
+    let w = c.self.inside in
+    answers no_step one_cause c.args.self.now c.cancel.new.self c.args.step.now
+    (kept_run w.start w.nodes.items w.kept.under_way.items w.kept.log.moves c.args.self.now c.self.invariant c.self.view_is) c.cancel.ensures.run
+    c.cancel.result (subst (λ (s : Step). Tries c.args.self.now s c.cancel.result c.cancel.new.self) (sym c.in-Cancel.is) c.cancel.ensures.tried) c.cancel.ensures.count
+
 pub returns-in-Deliver : goal.returns-in-Deliver
 returns-in-Deliver g c =
     let w = c.self.inside in
@@ -39,3 +46,10 @@ returns-in-Repeat g c =
     answers no_step one_cause c.args.self.now c.repeat.new.self c.args.step.now
     (kept_run w.start w.nodes.items w.kept.under_way.items w.kept.log.moves c.args.self.now c.self.invariant c.self.view_is) c.repeat.ensures.run
     c.repeat.result (subst (λ (s : Step). Tries c.args.self.now s c.repeat.result c.repeat.new.self) (sym c.in-Repeat.is) c.repeat.ensures.tried) c.repeat.ensures.count
+
+pub returns-in-Forget : goal.returns-in-Forget
+returns-in-Forget g c =
+    let w = c.self.inside in
+    answers no_step one_cause c.args.self.now c.forget.new.self c.args.step.now
+    (kept_run w.start w.nodes.items w.kept.under_way.items w.kept.log.moves c.args.self.now c.self.invariant c.self.view_is) c.forget.ensures.run
+    c.forget.result (subst (λ (s : Step). Tries c.args.self.now s c.forget.result c.forget.new.self) (sym c.in-Forget.is) c.forget.ensures.tried) c.forget.ensures.count

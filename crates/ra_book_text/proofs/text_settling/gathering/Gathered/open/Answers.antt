@@ -9,6 +9,7 @@ use Rattle.ra_book_text.proofs.text_settling.gathering.Gathered.open.Goals as go
 pub returns-then-not-is_beside : goal.returns-then-not-is_beside
 returns-then-not-is_beside c line is =
     let first = c.args.first.now in (
+      first.version,
       first.member.node,
       first.member.nodes,
       first.start,
@@ -22,10 +23,11 @@ returns-then-not-are_beside c line is =
     let first = c.args.first.now in
     let each = with_last (IsBeside first.member.node first.member.nodes first.start) c.args.self.now.earlier.items c.args.self.now.last c.are_beside.result
     (c.is_beside.ensures.0 c.if-not-is_beside.false) (rw c.deref.ensures.value at c.are_beside.ensures) in
-    (first.member.node, first.member.nodes, first.start, is, rw c.if-not-are_beside.true at each)
+    (first.version, first.member.node, first.member.nodes, first.start, is, rw c.if-not-are_beside.true at each)
 
 pub returns-then-is_err : goal.returns-then-is_err
 returns-then-is_err c line is = record {
+  version = c.args.first.now.version;
   node = c.args.first.now.member.node;
   nodes = c.args.first.now.member.nodes;
   start = c.args.first.now.start;
@@ -41,6 +43,7 @@ push_reserved-requires c = omega (arith, room_for_two c.reserve.result _ _ (sym 
 
 pub returns : goal.returns
 returns c line is = record {
+  version = c.args.first.now.version;
   node = c.args.first.now.member.node;
   nodes = c.args.first.now.member.nodes;
   start = c.args.first.now.start;
@@ -53,6 +56,7 @@ returns c line is = record {
       c.push_reserved.ensures.items ∙ ap (λ (bs : List BookState). bs ++ c.replace-earlier.result ∷ []) c.reserve.ensures.items
       ∙ ap (λ (b : BookState). c.args.self.now.earlier.items ++ b ∷ []) c.replace-earlier.ensures.value;
   last_is = c.replace-earlier.ensures.after ∙ c.of-book.ensures.value;
+  version_is = refl;
   came_is = refl;
   history = subst HasHistory (sym c.replace-earlier.ensures.after) c.of-book.ensures.history;
   room =

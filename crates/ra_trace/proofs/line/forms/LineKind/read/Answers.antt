@@ -17,3 +17,9 @@ returns-in-Reply c = rw c.in-Reply.is c.read_reply.ensures
 
 pub returns-in-Mark : goal.returns-in-Mark
 returns-in-Mark c = rw c.in-Mark.is c.read_mark.ensures
+
+pub returns-in-Cancel : goal.returns-in-Cancel
+returns-in-Cancel c = rw c.in-Cancel.is c.cancel_of.ensures
+
+pub returns-in-Forget : goal.returns-in-Forget
+returns-in-Forget c = rw c.in-Forget.is c.forget_of.ensures

@@ -1,6 +1,6 @@
 use Rattle.std.proofs.Common.{length, ap, ◌∙◌}
 use Rattle.ra_world.specs.Traffic.{sent_by, lost_by, repeated_by}
-use Rattle.ra_world.specs.Quiet.{requests_in}
+use Rattle.ra_world.specs.Quiet.{requests_in, withdrawn_in}
 use Rattle.ra_world.specs.Run.{marks_of}
 use Rattle.ra_world.specs.StepLog.{LogState}
 use Rattle.ra_world.proofs.world.step_log.StepLog.counts.Goals as goal
@@ -16,3 +16,6 @@ returns-clause-lost g c = c.self.invariant.lost_are ∙ ap (λ (s : LogState). l
 
 pub returns-clause-repeated : goal.returns-clause-repeated
 returns-clause-repeated g c = c.self.invariant.repeated_are ∙ ap (λ (s : LogState). length (repeated_by s.moves)) c.self.view_is
+
+pub returns-clause-withdrawn : goal.returns-clause-withdrawn
+returns-clause-withdrawn g c = c.self.invariant.withdrawn_are ∙ ap (λ (s : LogState). withdrawn_in (marks_of s.moves)) c.self.view_is

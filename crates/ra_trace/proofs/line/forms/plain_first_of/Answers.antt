@@ -4,7 +4,7 @@ use Rattle.ra_trace.specs.declared.line.Line.TheVariants.{First}
 use Rattle.ra_trace.specs.declared.line.version.Version.{Version}
 use Rattle.ra_trace.specs.Forms.{node_of, start_of}
 use Rattle.ra_trace.proofs.FieldReads.{no_first, first_then}
-use Rattle.ra_trace.proofs.line.forms.first_of.Goals as goal
+use Rattle.ra_trace.proofs.line.forms.plain_first_of.Goals as goal
 
 -- the line of what was read
 abbrev line_of : Version → Option (ℕ × ℕ) → Option Line

@@ -1,6 +1,6 @@
 use Rattle.std.proofs.Common.{◌≡◌, ◌≢◌, ◌<◌, ℕ, get_or}
 use Rattle.ra_node.specs.declared.queued_client.Queued.{Queued}
-use Rattle.ra_node.proofs.queue.is_among.Given as goal
+use Rattle.ra_node.proofs.queue.place_of.Given as goal
 
 -- none of those so far is the client
 abbrev pub invariant-loop-place : goal.invariant-loop-place

@@ -1,0 +1,47 @@
+use Rattle.std.proofs.Common.{List, refl, sym, subst, ◌∙◌}
+use Rattle.ra_frame.specs.declared.frame.Frame.{Frame}
+use Rattle.ra_book.specs.declared.book.event.BookKind.TheVariants.{Cancelled}
+use Rattle.ra_book.specs.Book.{BookState, Adds}
+use Rattle.ra_site.proofs.GivenGrants.{given, told_is_given}
+use Rattle.ra_site.proofs.LostFrames.{still_none_after}
+use Rattle.ra_book.specs.Keeping.{RefusesCancel}
+use Rattle.ra_book.specs.declared.error.BookError.{BookError}
+use Rattle.ra_site.proofs.Refusing.{same_cause}
+use Rattle.ra_site.proofs.site.desk.Desk.cancel.Goals as goal
+
+pub invariant_of-self : goal.invariant_of-self
+invariant_of-self g c =
+    record {
+      flagged = still_none_after c.args.self.now.book c.cancel.new.self _ c.cancel.result (λ p. p.frames.items) (λ p. p.marks.items)
+          c.cancel.ensures.ok c.cancel.ensures.err c.args.self.now.may_have_lost c.args.self.now.flagged;
+    }
+
+pub stepped-requires : goal.stepped-requires
+stepped-requires g c = record {
+  fit = c.in_ok-posted.ensures.fits;
+  given = given c.args.self.now.book _ c.in_ok-posted.posted.frames.items c.in_ok-posted.posted.marks.items c.cancel.new.self c.in_ok-posted.ensures.ok c.in_ok-posted.ensures.history;
+}
+
+pub returns : goal.returns
+returns g c =
+    let marks = c.in_ok-posted.posted.marks.items in
+    let kind = Cancelled c.args.client c.args.name in
+    let same = c.stepped.ensures.book ∙ c.take-given_up.ensures.book in
+    record {
+      made = (
+        marks,
+        subst (λ (b : BookState). Adds c.args.self.now.book kind c.stepped.result.frames.items marks b) (sym same)
+            (subst (λ (fs : List Frame). Adds c.args.self.now.book kind fs marks c.cancel.new.self) (sym c.stepped.ensures.frames) c.in_ok-posted.ensures.ok),
+      );
+      err = tt;
+      refused = λ why is. absurd cc;
+      given = told_is_given c.args.self.now.book _ c.in_ok-posted.posted.frames.items c.in_ok-posted.posted.marks.items c.cancel.new.self c.in_ok-posted.ensures.ok
+          _ _ _ refl same c.stepped.ensures.entered;
+    }
+
+pub returns-in_err-posted-clause-refused : goal.returns-in_err-posted-clause-refused
+returns-in_err-posted-clause-refused g c = λ why is.
+    let told = c.in_err-posted.ensures in
+    subst (λ (e : BookError). RefusesCancel c.args.self.now.book c.args.client c.args.name e)
+    (same_cause c.in_err-posted.field-0.0 why c.from_residual.result c.from_residual.ensures.1 is)
+    (record { failed = told.failed; not_waiting = told.not_waiting; clock_full = told.clock_full; allowed = told.allowed })
