@@ -76,11 +76,11 @@ const AFTER_OTHERS: &[Note] = &[
     // If the first line names no version, none is known.
     Note(
         Field("trace\nask 99 1 r X\n", 2, NO_LINE),
-        "line 2, 'ask 99 1 r X': NODE is '99': must be 1 to 16 in version 1, or 1 to 64 in version 2, without leading zeros",
+        "line 2, 'ask 99 1 r X': NODE is '99': must be 1 to 16 in version 1, otherwise 1 to 64, without leading zeros",
     ),
     Note(
         Field("trace\nask 1 1 r Y\n", 2, NO_LINE),
-        "line 2, 'ask 1 1 r Y': MODE is 'Y': must be S or X in version 1, or S, X, IS, IX or SIX in version 2",
+        "line 2, 'ask 1 1 r Y': MODE is 'Y': must be S or X in version 1, otherwise S, X, IS, IX or SIX",
     ),
     Note(
         Field("trace\nask 17 1 r X\n", 2, NO_LINE),
