@@ -28,7 +28,7 @@ use Rattle.ra_audit.specs.declared.audit_error.AuditFault.{AuditFault}
 use Rattle.ra_site.specs.declared.site.take_error.TakeError.{TakeError}
 use Rattle.ra_site.specs.declared.site.take_error.TakeError.TheVariants.{NoNode, OutOfTurn, NotNext}
 use Rattle.ra_book.specs.declared.book.event.BookKind.{BookKind}
-use Rattle.ra_book.specs.declared.book.event.BookKind.TheVariants.{Got}
+use Rattle.ra_book.specs.declared.book.event.BookKind.TheVariants.{Receive}
 use Rattle.ra_book.specs.History.{node_event, clock_of}
 use Rattle.ra_book.specs.Settled.{step_at}
 use Rattle.ra_audit.specs.Audit.{ProgressState, IsAudited, HasSettled, IsForNumber, IsDue, IsReady, IsMisfit, FitsRun, Advances, AreNextAt, AtNumber, Takes, TakesHanded, fresh_progress, taken_of, with_more}
@@ -194,7 +194,7 @@ misfit_at w nodes place p fault within at node is ready misfit = record {
 
 -- a frame whose sender is found can be put exactly if its clock is not above that of the sender's last settled event
 pub due_of_some : (nodes : List ProgressState) (kind : BookKind) (frame : Frame) (n place clock : ℕ) (p : ProgressState) → map (λ p. p.node) nodes ≡ range_with_len 1 n → place + 1 ≡ from_of frame.message
-    → true ≡ ltb place (length nodes) → p ≡ get_or nodes place p → clock ≡ clock_of p.settled → kind ≡ Got frame
+    → true ≡ ltb place (length nodes) → p ≡ get_or nodes place p → clock ≡ clock_of p.settled → kind ≡ Receive frame
     → (IsTrue (leb frame.clock clock) → IsDue nodes kind) × (IsDue nodes kind → IsTrue (leb frame.clock clock))
 due_of_some nodes kind frame n place clock p numbers number low at clock_is is =
     let within : place < length nodes = ltb-true place (length nodes) (sym low) in (
@@ -208,7 +208,7 @@ due_of_some nodes kind frame n place clock p numbers number low at clock_is is =
 
 -- a frame of a node that does not exist can be put
 pub due_of_none : (nodes : List ProgressState) (kind : BookKind) (frame : Frame) (n place : ℕ) → map (λ p. p.node) nodes ≡ range_with_len 1 n → place + 1 ≡ from_of frame.message
-    → false ≡ ltb place (length nodes) → kind ≡ Got frame → (IsTrue true → IsDue nodes kind) × (IsDue nodes kind → IsTrue true)
+    → false ≡ ltb place (length nodes) → kind ≡ Receive frame → (IsTrue true → IsDue nodes kind) × (IsDue nodes kind → IsTrue true)
 due_of_none nodes kind frame n place numbers number beyond is =
     let high : length nodes ≤ place = ltb-false place (length nodes) (sym beyond) in (
       λ t. subst (IsDue nodes) (sym is) (λ k d low same. absurd (omega (arith, number, same, low, high, number_of nodes n k d numbers low))),

@@ -10,7 +10,7 @@ use Rattle.ra_stamp.specs.Message.{from_of}
 use Rattle.ra_frame.specs.declared.frame.Frame.{Frame}
 use Rattle.ra_audit.specs.declared.audit_error.AuditFault.{AuditFault}
 use Rattle.ra_book.specs.declared.book.event.BookKind.{BookKind}
-use Rattle.ra_book.specs.declared.book.event.BookKind.TheVariants.{Asked, Gave, Cancelled, Forgot, Got}
+use Rattle.ra_book.specs.declared.book.event.BookKind.TheVariants.{Ask, Leave, Cancel, Forget, Receive}
 use Rattle.ra_book.specs.declared.book.event.BookEvent.{BookEvent}
 use Rattle.ra_book.specs.History.{clock_of}
 use Rattle.ra_audit.specs.Audit.{ProgressState, AreNextAt, IsDue, IsReady, NoneIsReady, NoneWaits, IsNeverSent, IsLeastLeft, taken_of}
@@ -69,7 +69,7 @@ none_here p none = All-cons (λ (p : ProgressState). p.waiting ≡ []) p [] (of 
 
 module _ (nodes : List ProgressState) (n : ℕ) (numbers : map (λ p. p.node) nodes ≡ range_with_len 1 n) (none_ready : NoneIsReady nodes) (taken : AreTaken nodes) where
   -- the frame's sender has no event with its clock
-  unsent : (fault : AuditFault) (frame : Frame) → frame.clock < fault.event.clock → (IsDue nodes (Got frame) → ⊥)
+  unsent : (fault : AuditFault) (frame : Frame) → frame.clock < fault.event.clock → (IsDue nodes (Receive frame) → ⊥)
       → All (λ p. (event : BookEvent) → slice_get p.waiting 0 ≡ Some event → fault.event.clock ≤ event.clock) nodes
       → All (λ p. p.node ≡ from_of frame.message → All (λ e. e.clock ≢ frame.clock) (taken_of p)) nodes
   unsent fault frame less not_due least k d low is =
@@ -95,19 +95,19 @@ module _ (nodes : List ProgressState) (n : ℕ) (numbers : map (λ p. p.node) no
       let all : AreNextAt p.node 0 (taken_of p) = subst (λ (q : ProgressState). AreNextAt q.node 0 (taken_of q)) (sym at) (taken k p at_node.2) in
       of fault.event.kind refl ready (waits p.node (clock_of p.settled) p.waiting at_node.4.1 (next_right p.node 0 p.settled p.waiting all))
     where
-      waits : (node clock : ℕ) (waiting : List BookEvent) → slice_get waiting 0 ≡ Some fault.event → AreNextAt node clock waiting → (frame : Frame) → fault.event.kind ≡ Got frame → frame.clock < fault.event.clock
+      waits : (node clock : ℕ) (waiting : List BookEvent) → slice_get waiting 0 ≡ Some fault.event → AreNextAt node clock waiting → (frame : Frame) → fault.event.kind ≡ Receive frame → frame.clock < fault.event.clock
       waits node clock [] is next frame came = absurd (none-some fault.event is)
       waits node clock (e ∷ waiting) is next frame came =
           let same : e ≡ fault.event = cc in
           let less : frame.clock < e.clock = after_frame node clock e frame next.0 (ap (λ (x : BookEvent). x.kind) same ∙ came) in
           subst (λ (x : BookEvent). frame.clock < x.clock) same less
 
-      of : (kind : BookKind) → fault.event.kind ≡ kind → (IsDue nodes kind → ⊥) → ((frame : Frame) → fault.event.kind ≡ Got frame → frame.clock < fault.event.clock) → IsNeverSent nodes fault
-      of (Asked client name mode) is not_due less = absurd (not_due tt)
-      of (Gave client name) is not_due less = absurd (not_due tt)
-      of (Cancelled client name) is not_due less = absurd (not_due tt)
-      of Forgot is not_due less = absurd (not_due tt)
-      of (Got frame) is not_due less = record {
+      of : (kind : BookKind) → fault.event.kind ≡ kind → (IsDue nodes kind → ⊥) → ((frame : Frame) → fault.event.kind ≡ Receive frame → frame.clock < fault.event.clock) → IsNeverSent nodes fault
+      of (Ask client name mode) is not_due less = absurd (not_due tt)
+      of (Leave client name) is not_due less = absurd (not_due tt)
+      of (Cancel client name) is not_due less = absurd (not_due tt)
+      of Forget is not_due less = absurd (not_due tt)
+      of (Receive frame) is not_due less = record {
         at_node = is_least.at_node;
         frame = frame;
         came = is;

@@ -5,7 +5,7 @@ use Rattle.std.specs.Prelude.{All, slice_get}
 use Rattle.std.proofs.lemmas.List.Elements.{All-nil, All-cons, All-append, All-weaker}
 use Rattle.ra_frame.specs.declared.frame.Frame.{Frame}
 use Rattle.ra_book.specs.declared.book.event.BookKind.{BookKind}
-use Rattle.ra_book.specs.declared.book.event.BookKind.TheVariants.{Asked, Gave, Cancelled, Forgot, Got}
+use Rattle.ra_book.specs.declared.book.event.BookKind.TheVariants.{Ask, Leave, Cancel, Forget, Receive}
 use Rattle.ra_book.specs.declared.book.event.BookEvent.{BookEvent}
 use Rattle.ra_audit.specs.declared.auditor.node_progress.NodeProgress.TheInside.{Inside}
 use Rattle.ra_book.specs.History.{clock_from, clock_of, clock_after}
@@ -77,11 +77,11 @@ kept_taken old new events k next waiting settled node latest clock =
 -- ---- The order of the clocks
 
 after_is_later : (clock : ℕ) (kind : BookKind) → clock < clock_after clock kind
-after_is_later clock (Asked client name mode) = omega arith
-after_is_later clock (Gave client name) = omega arith
-after_is_later clock (Cancelled client name) = omega arith
-after_is_later clock Forgot = omega arith
-after_is_later clock (Got frame) = omega arith
+after_is_later clock (Ask client name mode) = omega arith
+after_is_later clock (Leave client name) = omega arith
+after_is_later clock (Cancel client name) = omega arith
+after_is_later clock Forget = omega arith
+after_is_later clock (Receive frame) = omega arith
 
 later : (node clock : ℕ) (e : BookEvent) → IsNextAt node clock e → clock < e.clock
 later node clock e next = omega (arith, next.clock_is, after_is_later clock e.kind)
@@ -109,7 +109,7 @@ next_left node clock [] ys all = tt
 next_left node clock (x ∷ xs) ys all = (all.0, next_left node x.clock xs ys all.1)
 
 -- a frame comes after its clock
-pub after_frame : (node clock : ℕ) (e : BookEvent) (frame : Frame) → IsNextAt node clock e → e.kind ≡ Got frame → frame.clock < e.clock
+pub after_frame : (node clock : ℕ) (e : BookEvent) (frame : Frame) → IsNextAt node clock e → e.kind ≡ Receive frame → frame.clock < e.clock
 after_frame node clock e frame next came =
     let is : e.clock ≡ max clock frame.clock + 1 = next.clock_is ∙ ap (clock_after clock) came in omega (arith, is)
 

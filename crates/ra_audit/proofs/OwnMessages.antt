@@ -10,7 +10,7 @@ use Rattle.ra_stamp.specs.Message.{from_of, to_of}
 use Rattle.ra_automaton.specs.State.{IsForNode, IsOtherNode}
 use Rattle.ra_node.specs.Node.{NodeState, opening_node, IsConsistentNode}
 use Rattle.ra_node.specs.Events.{Event, Happening, NodeEvent, NodeEvents, IsForThisNode, AreForThisNode, name_of_event}
-use Rattle.ra_node.specs.Events.Event.{Ask as AskedFor, Leave as GivenBack, Cancel as GivenUp, Forget as Forgotten, Receive as Received}
+use Rattle.ra_node.specs.Events.{Event as acts}
 use Rattle.ra_node.specs.Carried.{IsSend}
 use Rattle.ra_world.specs.declared.step.Step.{Step}
 use Rattle.ra_world.specs.declared.step.Step.TheVariants.{Ask, Leave, Cancel, Forget, Deliver, Lose, Repeat}
@@ -19,11 +19,11 @@ use Rattle.ra_world.specs.Run.{IsRun, IsFit, AreFit, events_at, happened_at}
 use Rattle.ra_world.specs.Fitting.{sent_in}
 
 for_next : (old next : NodeState) (event : Event) → next.me ≡ old.me → next.nodes ≡ old.nodes → IsForThisNode old event → IsForThisNode next event
-for_next old next (AskedFor client name mode) me nodes h = tt
-for_next old next (GivenBack client name) me nodes h = tt
-for_next old next (GivenUp client name) me nodes h = tt
-for_next old next Forgotten me nodes h = tt
-for_next old next (Received message) me nodes h =
+for_next old next (acts.Ask client name mode) me nodes h = tt
+for_next old next (acts.Leave client name) me nodes h = tt
+for_next old next (acts.Cancel client name) me nodes h = tt
+for_next old next acts.Forget me nodes h = tt
+for_next old next (acts.Receive message) me nodes h =
     subst (λ (k : ℕ). IsForNode k next.nodes message) (sym me) (subst (λ (k : ℕ). IsForNode old.me k message) (sym nodes) h)
 
 module _ (keeps : (old new : NodeState) (event : Event) (sends : List Message) (marks : List Mark) → IsConsistentNode old → IsForThisNode old event → NodeEvent old event sends marks new → IsConsistentNode new)
@@ -64,12 +64,12 @@ module _ (keeps : (old new : NodeState) (event : Event) (sends : List Message) (
         by_test false event is = All-nil (λ h. IsForThisNode old h.event)
 
         at_step : (step : Step) → IsFit n before step m.sends m.marks → All (λ h. IsForThisNode old h.event) (map happening (events_at old.me step))
-        at_step (Ask node client name mode) fit = by_test (eqb node old.me) (AskedFor client name mode) (λ _. tt)
-        at_step (Leave node client name) fit = by_test (eqb node old.me) (GivenBack client name) (λ _. tt)
-        at_step (Cancel node client name) fit = by_test (eqb node old.me) (GivenUp client name) (λ _. tt)
-        at_step (Forget node) fit = by_test (eqb node old.me) Forgotten (λ _. tt)
+        at_step (Ask node client name mode) fit = by_test (eqb node old.me) (acts.Ask client name mode) (λ _. tt)
+        at_step (Leave node client name) fit = by_test (eqb node old.me) (acts.Leave client name) (λ _. tt)
+        at_step (Cancel node client name) fit = by_test (eqb node old.me) (acts.Cancel client name) (λ _. tt)
+        at_step (Forget node) fit = by_test (eqb node old.me) acts.Forget (λ _. tt)
         at_step (Deliver message) fit =
-            by_test (eqb (to_of message) old.me) (Received message)
+            by_test (eqb (to_of message) old.me) (acts.Receive message)
             (λ same.
             let to : to_of message ≡ old.me = eqb-true (to_of message) old.me same in
             let other = (between before message (prefixes before (m ∷ moves) run) fit).1 in

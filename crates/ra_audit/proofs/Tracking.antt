@@ -22,7 +22,7 @@ use Rattle.ra_world.specs.Run.{IsRun, GoesOn}
 use Rattle.ra_world.proofs.Moves.{fits_split}
 use Rattle.ra_world.specs.World.{WorldState, with_move}
 use Rattle.ra_book.specs.declared.book.event.BookKind.{BookKind}
-use Rattle.ra_book.specs.declared.book.event.BookKind.TheVariants.{Asked, Gave, Cancelled, Forgot, Got}
+use Rattle.ra_book.specs.declared.book.event.BookKind.TheVariants.{Ask, Leave, Cancel, Forget, Receive}
 use Rattle.ra_book.specs.declared.book.event.BookEvent.{BookEvent}
 use Rattle.ra_book.specs.Settled.{step_at, frames_in, received_among}
 use Rattle.ra_site.specs.declared.site.take_error.TakeError.{TakeError}
@@ -99,11 +99,11 @@ tracked_on nodes moves flights flights' on tracked = record {
 
 -- the messages that the step of an event takes
 taken_by_event : (node : ℕ) (kind : BookKind) → map (λ f. f.message) (frames_in kind) ≡ taken_in (step_at node kind)
-taken_by_event node (Asked client name mode) = refl
-taken_by_event node (Gave client name) = refl
-taken_by_event node (Cancelled client name) = refl
-taken_by_event node Forgot = refl
-taken_by_event node (Got frame) = refl
+taken_by_event node (Ask client name mode) = refl
+taken_by_event node (Leave client name) = refl
+taken_by_event node (Cancel client name) = refl
+taken_by_event node Forget = refl
+taken_by_event node (Receive frame) = refl
 
 -- frames that are noted were sent
 pub noted_were_sent : (nodes : List ProgressState) (moves : List Move) (flights : FlightState) (frames : List Frame) → IsTracked nodes moves flights → AreNoted flights frames → All (WasSentIn nodes moves) frames
@@ -135,11 +135,11 @@ goes_by_way w message goes =
 
 pub does_not_fit : (known : MessagesAreKnown) (w : WorldState) (nodes : List ProgressState) (flights : FlightState) (node : ℕ) (kind : BookKind) → IsAudited w nodes → IsTracked nodes w.moves flights → flights.last ≡ []
     → (AreNoted flights (frames_in kind) → ⊥) → FitsRun w nodes node kind → ⊥
-does_not_fit known w nodes flights node (Asked client name mode) a tracked none not fits = not (All-nil (λ f. IsNoted flights f.message f.clock))
-does_not_fit known w nodes flights node (Gave client name) a tracked none not fits = not (All-nil (λ f. IsNoted flights f.message f.clock))
-does_not_fit known w nodes flights node (Cancelled client name) a tracked none not fits = not (All-nil (λ f. IsNoted flights f.message f.clock))
-does_not_fit known w nodes flights node Forgot a tracked none not fits = not (All-nil (λ f. IsNoted flights f.message f.clock))
-does_not_fit known w nodes flights node (Got frame) a tracked none not fits =
+does_not_fit known w nodes flights node (Ask client name mode) a tracked none not fits = not (All-nil (λ f. IsNoted flights f.message f.clock))
+does_not_fit known w nodes flights node (Leave client name) a tracked none not fits = not (All-nil (λ f. IsNoted flights f.message f.clock))
+does_not_fit known w nodes flights node (Cancel client name) a tracked none not fits = not (All-nil (λ f. IsNoted flights f.message f.clock))
+does_not_fit known w nodes flights node Forget a tracked none not fits = not (All-nil (λ f. IsNoted flights f.message f.clock))
+does_not_fit known w nodes flights node (Receive frame) a tracked none not fits =
     not_noted known w nodes flights frame a tracked none not (goes_by_way w frame.message fits.goes_on) (All-head (WasSentIn nodes w.moves) frame [] fits.sent)
 
 -- its message is not under way with this clock, whether or not that is noted
@@ -159,11 +159,11 @@ Fly flights kind = All (λ f. HasClock flights f.message f.clock) (frames_in kin
 
 pub does_not_fly : (known : MessagesAreKnown) (w : WorldState) (nodes : List ProgressState) (flights : FlightState) (node : ℕ) (kind : BookKind) → IsAudited w nodes → IsTracked nodes w.moves flights
     → (Fly flights kind → ⊥) → FitsRun w nodes node kind → ⊥
-does_not_fly known w nodes flights node (Asked client name mode) a tracked not fits = not (All-nil (λ f. HasClock flights f.message f.clock))
-does_not_fly known w nodes flights node (Gave client name) a tracked not fits = not (All-nil (λ f. HasClock flights f.message f.clock))
-does_not_fly known w nodes flights node (Cancelled client name) a tracked not fits = not (All-nil (λ f. HasClock flights f.message f.clock))
-does_not_fly known w nodes flights node Forgot a tracked not fits = not (All-nil (λ f. HasClock flights f.message f.clock))
-does_not_fly known w nodes flights node (Got frame) a tracked not fits =
+does_not_fly known w nodes flights node (Ask client name mode) a tracked not fits = not (All-nil (λ f. HasClock flights f.message f.clock))
+does_not_fly known w nodes flights node (Leave client name) a tracked not fits = not (All-nil (λ f. HasClock flights f.message f.clock))
+does_not_fly known w nodes flights node (Cancel client name) a tracked not fits = not (All-nil (λ f. HasClock flights f.message f.clock))
+does_not_fly known w nodes flights node Forget a tracked not fits = not (All-nil (λ f. HasClock flights f.message f.clock))
+does_not_fly known w nodes flights node (Receive frame) a tracked not fits =
     let P = λ (f : Frame). HasClock flights f.message f.clock in
     not_flying known w nodes flights frame a tracked (λ has. not (All-cons P frame [] has (All-nil P)))
     (goes_by_way w frame.message fits.goes_on) (All-head (WasSentIn nodes w.moves) frame [] fits.sent)

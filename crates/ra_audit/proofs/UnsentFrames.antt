@@ -10,7 +10,7 @@ use Rattle.ra_stamp.specs.Message.{from_of}
 use Rattle.ra_frame.specs.declared.frame.Frame.{Frame}
 use Rattle.ra_audit.specs.declared.audit_error.AuditFault.{AuditFault}
 use Rattle.ra_book.specs.declared.book.event.BookKind.{BookKind}
-use Rattle.ra_book.specs.declared.book.event.BookKind.TheVariants.{Got}
+use Rattle.ra_book.specs.declared.book.event.BookKind.TheVariants.{Receive}
 use Rattle.ra_book.specs.declared.book.event.BookEvent.{BookEvent}
 use Rattle.ra_book.specs.History.{clock_of, clock_from}
 use Rattle.ra_audit.specs.Audit.{ProgressState, AreNextAt, IsDue, MayCome, MayComeFrom, MayBePut, IsUnsent, taken_of, clock_at}
@@ -69,7 +69,7 @@ of_no_number P nodes n place from numbers number high k d low is = absurd (omega
 -- ---- A frame whose sender is found
 
 module _ (nodes : List ProgressState) (kind : BookKind) (frame : Frame) (n place : ℕ) (numbers : map (λ p. p.node) nodes ≡ range_with_len 1 n)
-    (number : place + 1 ≡ from_of frame.message) (is : kind ≡ Got frame) where
+    (number : place + 1 ≡ from_of frame.message) (is : kind ≡ Receive frame) where
   pub may_come_of : (p : ProgressState) (IsNew : Type 0) → true ≡ ltb place (length nodes) → p ≡ get_or nodes place p
       → MayComeFrom frame.clock IsNew p → MayCome nodes IsNew kind
   may_come_of p IsNew low at may =

@@ -26,7 +26,7 @@ use Rattle.ra_audit.specs.declared.audit_error.RoundError.TheVariants.{NotAudite
 use Rattle.ra_site.specs.declared.site.take_error.TakeError.{TakeError}
 use Rattle.ra_site.specs.declared.site.take_error.TakeError.TheVariants.{NoNode, OutOfTurn, NotNext, Memory}
 use Rattle.ra_book.specs.declared.book.event.BookKind.{BookKind}
-use Rattle.ra_book.specs.declared.book.event.BookKind.TheVariants.{Asked, Gave, Cancelled, Forgot, Got}
+use Rattle.ra_book.specs.declared.book.event.BookKind.TheVariants.{Ask, Leave, Cancel, Forget, Receive}
 use Rattle.ra_book.specs.declared.book.event.BookEvent.{BookEvent}
 use Rattle.ra_book.specs.History.{clock_after, clock_of, frames_at, node_event}
 use Rattle.ra_book.specs.Book.{BookState, HasHistory, whole_events}
@@ -71,11 +71,11 @@ pub record AuditState : Type 0 where
 
 -- a frame that came is for this node
 abbrev pub IsForNumber : ℕ → BookKind → Type 0
-IsForNumber node (Asked client name mode) = Unit {0}
-IsForNumber node (Gave client name) = Unit {0}
-IsForNumber node (Cancelled client name) = Unit {0}
-IsForNumber node Forgot = Unit {0}
-IsForNumber node (Got frame) = to_of frame.message ≡ node
+IsForNumber node (Ask client name mode) = Unit {0}
+IsForNumber node (Leave client name) = Unit {0}
+IsForNumber node (Cancel client name) = Unit {0}
+IsForNumber node Forget = Unit {0}
+IsForNumber node (Receive frame) = to_of frame.message ≡ node
 
 -- after an event with this clock, this can be the next event of the node: it has the clock that follows, at most 2^62,
 -- and a frame that came is for the node
@@ -137,11 +137,11 @@ IsReached nodes frame = All (λ p. p.node ≡ from_of frame.message → frame.cl
 
 -- A frame that came can be put once the run has come to it, and every other event at once.
 abbrev pub IsDue : List ProgressState → BookKind → Type 0
-IsDue nodes (Asked client name mode) = Unit {0}
-IsDue nodes (Gave client name) = Unit {0}
-IsDue nodes (Cancelled client name) = Unit {0}
-IsDue nodes Forgot = Unit {0}
-IsDue nodes (Got frame) = IsReached nodes frame
+IsDue nodes (Ask client name mode) = Unit {0}
+IsDue nodes (Leave client name) = Unit {0}
+IsDue nodes (Cancel client name) = Unit {0}
+IsDue nodes Forget = Unit {0}
+IsDue nodes (Receive frame) = IsReached nodes frame
 
 -- the next event of the node, after those in the run, can be put into it
 abbrev pub IsReady : List ProgressState → ProgressState → Type 0
@@ -408,7 +408,7 @@ pub record IsNotTaken (nodes : List ProgressState) (node : ℕ) (cause : TakeErr
 pub record IsNeverSent (nodes : List ProgressState) (fault : AuditFault) : Type 0 where
   pub at_node : Any (λ p. (p.node ≡ fault.node) × (slice_get p.waiting 0 ≡ Some fault.event)) nodes
   pub frame : Frame
-  pub came : fault.event.kind ≡ Got frame
+  pub came : fault.event.kind ≡ Receive frame
   pub no_event : All (λ p. p.node ≡ from_of frame.message → All (λ e. e.clock ≢ frame.clock) (taken_of p)) nodes
 
 -- no event that was taken and is not in the run has a lesser clock than this one
@@ -440,11 +440,11 @@ MayComeFrom clock IsNew s =
 
 -- of a frame that came, this holds of its sender
 abbrev pub MayCome : List ProgressState → Type 0 → BookKind → Type 0
-MayCome nodes IsNew (Asked client name mode) = Unit {0}
-MayCome nodes IsNew (Gave client name) = Unit {0}
-MayCome nodes IsNew (Cancelled client name) = Unit {0}
-MayCome nodes IsNew Forgot = Unit {0}
-MayCome nodes IsNew (Got frame) = All (λ s. s.node ≡ from_of frame.message → MayComeFrom frame.clock IsNew s) nodes
+MayCome nodes IsNew (Ask client name mode) = Unit {0}
+MayCome nodes IsNew (Leave client name) = Unit {0}
+MayCome nodes IsNew (Cancel client name) = Unit {0}
+MayCome nodes IsNew Forget = Unit {0}
+MayCome nodes IsNew (Receive frame) = All (λ s. s.node ≡ from_of frame.message → MayComeFrom frame.clock IsNew s) nodes
 
 -- The node's next event, if one waits, may still be put into the run. A frame is new if it was taken after the nodes had
 -- these clocks.

@@ -16,7 +16,7 @@ use Rattle.ra_world.specs.Fitting.{sent_in}
 use Rattle.ra_frame.specs.declared.frame.Frame.{Frame}
 use Rattle.ra_audit.specs.declared.audit_error.AuditFault.{AuditFault}
 use Rattle.ra_book.specs.declared.book.event.BookKind.{BookKind}
-use Rattle.ra_book.specs.declared.book.event.BookKind.TheVariants.{Got}
+use Rattle.ra_book.specs.declared.book.event.BookKind.TheVariants.{Receive}
 use Rattle.ra_book.specs.declared.book.event.BookEvent.{BookEvent}
 use Rattle.ra_book.specs.History.{clock_of}
 use Rattle.ra_book.specs.Settled.{received_among}
@@ -53,7 +53,7 @@ HasNone clock NoneComes s = All (λ e. e.clock ≢ clock) (taken_of s) × ((cloc
 
 -- the event is a frame that came, and of its sender that holds
 abbrev pub IsOfNone : List ProgressState → Type 0 → BookKind → Type 0
-IsOfNone nodes NoneComes kind = (frame : Frame) × (kind ≡ Got frame)
+IsOfNone nodes NoneComes kind = (frame : Frame) × (kind ≡ Receive frame)
     × All (λ s. s.node ≡ from_of frame.message → HasNone frame.clock NoneComes s) nodes
 
 -- ---- Losses

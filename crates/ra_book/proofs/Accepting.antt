@@ -13,7 +13,7 @@ use Rattle.ra_automaton.specs.State.{IsForNode}
 use Rattle.ra_node.specs.Node.{NodeState, IsConsistentNode}
 use Rattle.ra_book.specs.declared.error.BookError.{BookError}
 use Rattle.ra_book.specs.declared.error.BookError.TheVariants.{Failed, Frame, Busy, Exhausted, NotHeld, NotWaiting, WrongNode, Stranger, ClockFull, Memory}
-use Rattle.ra_book.specs.declared.book.event.BookKind.TheVariants.{Got}
+use Rattle.ra_book.specs.declared.book.event.BookKind.TheVariants.{Receive}
 use Rattle.ra_book.specs.History.{clock_after, clock_of}
 use Rattle.ra_book.specs.Book.{BookState, whole_events, HasClock, ReadsFrame}
 use Rattle.ra_book.specs.EventChecks.{IsRefusedAfter, IsRefusedWithClock}
@@ -39,7 +39,7 @@ module _ (me nodes clock : ℕ) (bytes : List ℕ) where
 
 -- a frame that the node does not take, or for which no clock is left
 pub not_taken : (node : NodeState) (clock : ℕ) (bytes : List ℕ) (f : OneFrame) → IsFrameText bytes f → Fits f → (why : BookError) → why ≢ Memory
-    → IsRefusedAfter node clock (Got f) why → NotAccepted node.me node.nodes clock bytes why
+    → IsRefusedAfter node clock (Receive f) why → NotAccepted node.me node.nodes clock bytes why
 not_taken node clock bytes f text fits why other (inl (inl wrong)) =
     subst (NotAccepted node.me node.nodes clock bytes) (sym wrong.0) (f, text, wrong.1)
 not_taken node clock bytes f text fits why other (inl (inr stranger)) =
@@ -97,12 +97,12 @@ module _ (book : BookState) (bytes : List ℕ) where
       no_failure : {T : Type 0} {answer : Result T BookError} → (IsErrOf answer Failed → ⊥) → IsErrOf answer Failed ↔ IsSome book.fault
       no_failure other = (λ is. absurd (other is), λ some. absurd (has_fault book.fault some none))
 
-      by_answer : (answer : Result (OneFrame × ℕ) BookError) → IfOk answer (λ h. IsFrameFor book.me book.nodes bytes h.0 × (h.1 ≡ clock_after clock (Got h.0)) × (h.1 ≤ 2 ^ 62))
+      by_answer : (answer : Result (OneFrame × ℕ) BookError) → IfOk answer (λ h. IsFrameFor book.me book.nodes bytes h.0 × (h.1 ≡ clock_after clock (Receive h.0)) × (h.1 ≤ 2 ^ 62))
           → IfErr answer (NotAccepted book.me book.nodes clock bytes) → AnswersReceive book bytes answer
       by_answer (Ok h) accepted refused =
           let f = h.0 in
           let is = accepted.0 in
-          let has : HasClock book (Got f) = has_next book clock (Got f) clock_is (Ok h.1) (accepted.1, accepted.2) in
+          let has : HasClock book (Receive f) = has_next book clock (Receive f) clock_is (Ok h.1) (accepted.1, accepted.2) in
           record {
             failed = no_failure (λ e. absurd (cc));
             frame = λ fault. (λ e. absurd (cc), λ found. absurd (accepts.no_fault f fault is.text found.1));
@@ -152,7 +152,7 @@ module _ (book : BookState) (bytes : List ℕ) where
       by_answer (Err ClockFull) accepted refused =
           let f = refused.0 in
           let is = refused.1 in
-          let full = (has_next book clock (Got f) clock_is (Err ClockFull) (refl, refused.2)).1 in
+          let full = (has_next book clock (Receive f) clock_is (Err ClockFull) (refl, refused.2)).1 in
           record {
             failed = no_failure (λ e. absurd (cc));
             frame = λ fault. (λ e. absurd (cc), λ found. absurd (accepts.no_fault f fault is.text found.1));
@@ -202,13 +202,13 @@ one_frame bytes r f is text fits only fault = record {
 }
 
 module _ (node : NodeState) (book now : BookState) (bytes : List ℕ) (none : now.fault ≡ None) (f : OneFrame) (read : IsRead bytes f)
-    (same : (node.me ≡ book.me) × (node.nodes ≡ book.nodes) × IsConsistentNode node) (is : book ≡ now) (next : ℕ) (has : HasNextClock now (Got f) next)
+    (same : (node.me ≡ book.me) × (node.nodes ≡ book.nodes) × IsConsistentNode node) (is : book ≡ now) (next : ℕ) (has : HasNextClock now (Receive f) next)
   where
     abbrev latest : ℕ
     latest = clock_of (whole_events now)
 
     answered : (r : Result (OneFrame × ℕ) BookError)
-        → IfOk r (λ h. IsFrameFor node.me node.nodes bytes h.0 × (h.1 ≡ clock_after latest (Got h.0)) × (h.1 ≤ 2 ^ 62))
+        → IfOk r (λ h. IsFrameFor node.me node.nodes bytes h.0 × (h.1 ≡ clock_after latest (Receive h.0)) × (h.1 ≤ 2 ^ 62))
         → IfErr r (NotAccepted node.me node.nodes latest bytes) → AnswersReceive now bytes r
     answered r for_it refused =
         receive_answers now bytes none latest refl r
@@ -245,13 +245,13 @@ module _ (node : NodeState) (book now : BookState) (bytes : List ℕ) (none : no
     node_refuses receive.Memory wrong stranger allowed r h = frame_taken r (memory_alone r h) (allowed.0 refl)
 
     -- there is no room for it
-    pub without_room : {T : Type 0} (why : BookError) → IsRefusedWithClock node (Got f) why → AnswersReceive {T = T} now bytes (Err why)
+    pub without_room : {T : Type 0} (why : BookError) → IsRefusedWithClock node (Receive f) why → AnswersReceive {T = T} now bytes (Err why)
     without_room why (inl (inl wrong)) = frame_refused WrongNode (f, read.text, wrong.1) (Err why) wrong.0
     without_room why (inl (inr stranger)) = frame_refused Stranger (f, read.text, stranger.1, stranger.2) (Err why) stranger.0
     without_room why (inr memory) = frame_taken (Err why) memory.0 memory.1
 
 -- no clock is left, so memory is not the cause
-pub not_for_memory : (node : NodeState) (clock : ℕ) (f : OneFrame) (why : BookError) → IsRefusedAfter node clock (Got f) why → 2 ^ 62 < clock_after clock (Got f)
+pub not_for_memory : (node : NodeState) (clock : ℕ) (f : OneFrame) (why : BookError) → IsRefusedAfter node clock (Receive f) why → 2 ^ 62 < clock_after clock (Receive f)
     → why ≢ Memory
 not_for_memory node clock f why (inl (inl wrong)) full is = let apart = sym wrong.0 ∙ is in absurd (cc)
 not_for_memory node clock f why (inl (inr stranger)) full is = let apart = sym stranger.0 ∙ is in absurd (cc)

@@ -11,7 +11,7 @@ use Rattle.ra_node.specs.Node.{NodeState, IsConsistentNode}
 use Rattle.ra_node.specs.Events.{ForgetEvent, NodeEvent, IsForThisNode}
 use Rattle.ra_book.specs.declared.book.event_effect.Posted.{Posted}
 use Rattle.ra_book.specs.declared.book.event.BookKind.{BookKind}
-use Rattle.ra_book.specs.declared.book.event.BookKind.TheVariants.{Asked, Gave, Cancelled, Got, Forgot}
+use Rattle.ra_book.specs.declared.book.event.BookKind.TheVariants.{Ask, Leave, Cancel, Receive, Forget}
 use Rattle.ra_book.specs.declared.book.event.BookEvent.{BookEvent}
 use Rattle.ra_book.specs.declared.book.sent.Sent.{Sent}
 use Rattle.ra_book.specs.History.{node_event, frames_at}
@@ -31,20 +31,20 @@ same_kept book node node' events sent keeps events_are sent_are node_is =
 -- what is for the book is for the node that is kept
 for_this_node : (now : BookState) (node : NodeState) (kind : BookKind) → (node.me ≡ now.me) × (node.nodes ≡ now.nodes) → IsForThisBook now kind
     → IsForThisNode node (node_event kind)
-for_this_node now node (Asked client name mode) same for_it = tt
-for_this_node now node (Gave client name) same for_it = tt
-for_this_node now node (Cancelled client name) same for_it = tt
-for_this_node now node Forgot same for_it = tt
-for_this_node now node (Got frame) same for_it =
+for_this_node now node (Ask client name mode) same for_it = tt
+for_this_node now node (Leave client name) same for_it = tt
+for_this_node now node (Cancel client name) same for_it = tt
+for_this_node now node Forget same for_it = tt
+for_this_node now node (Receive frame) same for_it =
     subst (λ (k : ℕ). IsForNode node.me k frame.message) (sym same.1) (subst (λ (k : ℕ). IsForNode k now.nodes frame.message) (sym same.0) for_it.0)
 
 -- the frame that comes fits
-frame_fits : (now : BookState) (kind : BookKind) → IsForThisBook now kind → (frame : Frame) → kind ≡ Got frame → Fits frame
-frame_fits now (Asked client name mode) for_it frame is = absurd (cc)
-frame_fits now (Gave client name) for_it frame is = absurd (cc)
-frame_fits now (Cancelled client name) for_it frame is = absurd (cc)
-frame_fits now Forgot for_it frame is = absurd (cc)
-frame_fits now (Got f) for_it frame is = let same : f ≡ frame = cc in subst Fits same for_it.1
+frame_fits : (now : BookState) (kind : BookKind) → IsForThisBook now kind → (frame : Frame) → kind ≡ Receive frame → Fits frame
+frame_fits now (Ask client name mode) for_it frame is = absurd (cc)
+frame_fits now (Leave client name) for_it frame is = absurd (cc)
+frame_fits now (Cancel client name) for_it frame is = absurd (cc)
+frame_fits now Forget for_it frame is = absurd (cc)
+frame_fits now (Receive f) for_it frame is = let same : f ≡ frame = cc in subst Fits same for_it.1
 
 module _ (now book : BookState) (old new : NodeState) (clock : ℕ) (kind : BookKind) (events : List BookEvent) (sent : List Sent)
     (keeps : Keeps book old) (is : book ≡ now) (next : ComesNext now clock kind)
@@ -97,7 +97,7 @@ module _ (now book : BookState) (old new : NodeState) (clock : ℕ) (kind : Book
         pub added_fits :
             ((book : BookState) (old new : NodeState) (kind : BookKind) (sends : List Message) (marks : List Mark)
             → Keeps book old → IsForThisNode old (node_event kind) → NodeEvent old (node_event kind) sends marks new
-            → HasClock book kind → ((frame : Frame) → kind ≡ Got frame → Fits frame)
+            → HasClock book kind → ((frame : Frame) → kind ≡ Receive frame → Fits frame)
             → All Fits (frames_at (next_clock book kind) sends))
             → (posted : Posted) → Happens old new book.events events book.sent sent (record { clock = clock; kind = kind }) posted
             → All Fits posted.frames.items
@@ -113,14 +113,14 @@ abbrev nothing : Posted
 nothing = record { frames = record { items = []; spare = 0 }; marks = record { items = []; spare = 0 } }
 
 module _ (now book : BookState) (old new : NodeState) (clock : ℕ) (events : List BookEvent) (keeps : Keeps book old) (is : book ≡ now)
-    (clock_is : clock ≡ next_clock now Forgot) (low : clock ≤ 2 ^ 62) (events_are : events ≡ book.events ++ record { clock = clock; kind = Forgot } ∷ [])
+    (clock_is : clock ≡ next_clock now Forget) (low : clock ≤ 2 ^ 62) (events_are : events ≡ book.events ++ record { clock = clock; kind = Forget } ∷ [])
     (happened : ForgetEvent old [] [] new)
     (who : (book : BookState) (node : NodeState) → Keeps book node → (node.me ≡ book.me) × (node.nodes ≡ book.nodes) × IsConsistentNode node)
   where
-    forgets_next : ComesNext now clock Forgot
+    forgets_next : ComesNext now clock Forget
     forgets_next = record { clock_is = clock_is; has_clock = subst (λ (k : ℕ). k ≤ 2 ^ 62) clock_is low; for_this_book = tt }
 
-    forgets_then : Happens old new book.events events book.sent book.sent (record { clock = clock; kind = Forgot }) nothing
+    forgets_then : Happens old new book.events events book.sent book.sent (record { clock = clock; kind = Forget }) nothing
     forgets_then = record { sends = []; happens = happened; events_are = events_are; sent_are = sym (append-nil book.sent); frames_are = refl }
 
     pub forgotten_kept :
@@ -129,10 +129,10 @@ module _ (now book : BookState) (old new : NodeState) (clock : ℕ) (events : Li
         → HasClock book kind
         → Keeps (with_event book (next_clock book kind) kind (frames_at (next_clock book kind) sends)) new)
         → Keeps (record book { events = events; sent = book.sent }) new
-    forgotten_kept law = kept_after now book old new clock Forgot events book.sent keeps is forgets_next who law nothing forgets_then
+    forgotten_kept law = kept_after now book old new clock Forget events book.sent keeps is forgets_next who law nothing forgets_then
 
-    pub forgotten_added : Adds now Forgot [] [] (record book { events = events; sent = book.sent })
-    forgotten_added = added now book old new clock Forgot events book.sent keeps is forgets_next who nothing forgets_then
+    pub forgotten_added : Adds now Forget [] [] (record book { events = events; sent = book.sent })
+    forgotten_added = added now book old new clock Forget events book.sent keeps is forgets_next who nothing forgets_then
 
 -- ---- No event
 

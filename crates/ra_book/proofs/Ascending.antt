@@ -8,18 +8,18 @@ use Rattle.ra_stamp.specs.declared.message.Message.{Message}
 use Rattle.ra_frame.specs.declared.frame.Frame.{Frame}
 use Rattle.ra_node.specs.Node.{NodeState}
 use Rattle.ra_book.specs.declared.book.event.BookKind.{BookKind}
-use Rattle.ra_book.specs.declared.book.event.BookKind.TheVariants.{Asked, Gave, Cancelled, Got, Forgot}
+use Rattle.ra_book.specs.declared.book.event.BookKind.TheVariants.{Ask, Leave, Cancel, Receive, Forget}
 use Rattle.ra_book.specs.declared.book.event.BookEvent.{BookEvent}
 use Rattle.ra_book.specs.declared.book.sent.Sent.{Sent}
 use Rattle.ra_book.specs.History.{Posting, IsHistory, AreClocked, clock_after, frames_at, frames_of}
 use Rattle.ra_book.specs.Keeping.{Ascends}
 
 pub later_clock : (clock : ℕ) (kind : BookKind) → clock < clock_after clock kind
-later_clock clock (Asked client name mode) = omega arith
-later_clock clock (Gave client name) = omega arith
-later_clock clock (Cancelled client name) = omega arith
-later_clock clock Forgot = omega arith
-later_clock clock (Got frame) = omega arith
+later_clock clock (Ask client name mode) = omega arith
+later_clock clock (Leave client name) = omega arith
+later_clock clock (Cancel client name) = omega arith
+later_clock clock Forget = omega arith
+later_clock clock (Receive frame) = omega arith
 
 -- from this clock on, the frames ascend
 abbrev AscendFrom : ℕ → List Frame → Type 0

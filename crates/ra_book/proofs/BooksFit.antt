@@ -16,7 +16,7 @@ use Rattle.ra_world.specs.Traffic.{Move, taken_in, sent_by, repeated_by}
 use Rattle.ra_world.specs.Run.{IsRun, WorldRun, events_at, happened_at}
 use Rattle.ra_world.specs.Fitting.{sent_in, happened_by, WasSentBy, NamesNode, FitTogether}
 use Rattle.ra_book.specs.declared.book.event.BookKind.{BookKind}
-use Rattle.ra_book.specs.declared.book.event.BookKind.TheVariants.{Asked, Gave, Cancelled, Got, Forgot}
+use Rattle.ra_book.specs.declared.book.event.BookKind.TheVariants.{Ask, Leave, Cancel, Receive, Forget}
 use Rattle.ra_book.specs.History.{node_event, happening_of}
 use Rattle.ra_book.specs.Book.{BookState, nothing_taken, HasHistory}
 use Rattle.ra_book.specs.Settled.{IsCluster, IsSettledOrder, Placed, WasSent, BooksFit, events_of, step_at, steps_of, all_lost, lost_among, all_received, settled_steps, start_of}
@@ -84,11 +84,11 @@ taken_by_losses [] = refl
 taken_by_losses (m ∷ ms) = ap (λ (xs : List Message). m ∷ xs) (taken_by_losses ms)
 
 pub names : (n i : ℕ) (kind : BookKind) → (1 ≤ i) × (i ≤ n) → NamesNode n (step_at i kind)
-names n i (Asked client name mode) within = within
-names n i (Gave client name) within = within
-names n i (Cancelled client name) within = within
-names n i Forgot within = within
-names n i (Got frame) within = tt
+names n i (Ask client name mode) within = within
+names n i (Leave client name) within = within
+names n i (Cancel client name) within = within
+names n i Forget within = within
+names n i (Receive frame) within = tt
 
 -- ---- The steps fit together
 

@@ -16,7 +16,7 @@ use Rattle.ra_world.specs.Fitting.{TellsApart}
 use Rattle.ra_world.proofs.Lists.{head_of, tail_of}
 use Rattle.ra_world.proofs.Times.{times, times_append, there_once}
 use Rattle.ra_book.specs.declared.book.event.BookKind.{BookKind}
-use Rattle.ra_book.specs.declared.book.event.BookKind.TheVariants.{Asked, Gave, Cancelled, Got, Forgot}
+use Rattle.ra_book.specs.declared.book.event.BookKind.TheVariants.{Ask, Leave, Cancel, Receive, Forget}
 use Rattle.ra_book.specs.Settled.{Placed, frames_in, step_at, steps_of}
 use Rattle.ra_book.specs.Repeats.{ComesBy, AreCopiesBefore, AreWithCopies, frames_by}
 use Rattle.ra_book.proofs.Distinct.{AreDifferent, pairs_first, pairs_rest}
@@ -90,11 +90,11 @@ one_only : (frame : Frame) (m : Message) → Contains (frame.message ∷ []) m �
 one_only frame m at = elim (first_or_later frame.message [] m at) [ inl same ↦ same | inr in_none ↦ absurd (omega (arith, in_none.1)) ]
 
 touched_at : (i : ℕ) (kind : BookKind) (m : Message) → Contains (taken_in (step_at i kind) ++ repeated_in (step_at i kind)) m → (frame : Frame) × Contains (frames_in kind) frame × (frame.message ≡ m)
-touched_at i (Asked client name mode) m at = absurd (omega (arith, at.1))
-touched_at i (Gave client name) m at = absurd (omega (arith, at.1))
-touched_at i (Cancelled client name) m at = absurd (omega (arith, at.1))
-touched_at i Forgot m at = absurd (omega (arith, at.1))
-touched_at i (Got frame) m at = (frame, first frame [], one_only frame m at)
+touched_at i (Ask client name mode) m at = absurd (omega (arith, at.1))
+touched_at i (Leave client name) m at = absurd (omega (arith, at.1))
+touched_at i (Cancel client name) m at = absurd (omega (arith, at.1))
+touched_at i Forget m at = absurd (omega (arith, at.1))
+touched_at i (Receive frame) m at = (frame, first frame [], one_only frame m at)
 
 none_came : (frame : Frame) (m : Message) (taken repeated : ℕ) → taken ≡ 0 → Others [] frame m taken repeated
 none_came frame m taken repeated none =
@@ -120,7 +120,7 @@ here p placed copies untaken silent =
     }
 
 -- the copy before its step
-copy_here : (p : Placed) (placed : List Placed) (frame : Frame) → p.event.kind ≡ Got frame → PlaceOf (p ∷ placed) [] (Repeat frame.message)
+copy_here : (p : Placed) (placed : List Placed) (frame : Frame) → p.event.kind ≡ Receive frame → PlaceOf (p ∷ placed) [] (Repeat frame.message)
 copy_here p placed frame kind =
     record {
       before = [];
@@ -169,7 +169,7 @@ last_time is m tells frame p placed before taken repeated among comes last other
           enough = enough;
         }
 
-    one_more : (g : Frame) → p.event.kind ≡ Got g → (b : Bool) → is g.message ≡ b → Others (p ∷ before) frame m (length (cond b (g.message ∷ []) []) + taken) (times is [] + repeated)
+    one_more : (g : Frame) → p.event.kind ≡ Receive g → (b : Bool) → is g.message ≡ b → Others (p ∷ before) frame m (length (cond b (g.message ∷ []) []) + taken) (times is [] + repeated)
     one_more g kind false e = let enough = others.enough in same_ones _ _ (omega (arith, enough))
     one_more g kind true e =
         let never : ComesBy placed g → ⊥ = All-head (λ f. ComesBy placed f → ⊥) g [] (subst (λ (k : BookKind). All (λ f. ComesBy placed f → ⊥) (frames_in k)) kind last) in
@@ -188,11 +188,11 @@ last_time is m tells frame p placed before taken repeated among comes last other
         }
 
     by_kind : (kind : BookKind) → p.event.kind ≡ kind → Others (p ∷ before) frame m (times is (taken_in (step_at p.node kind)) + taken) (times is (repeated_in (step_at p.node kind)) + repeated)
-    by_kind (Asked client name mode) same = let enough = others.enough in same_ones _ _ (omega (arith, enough))
-    by_kind (Gave client name) same = let enough = others.enough in same_ones _ _ (omega (arith, enough))
-    by_kind (Cancelled client name) same = let enough = others.enough in same_ones _ _ (omega (arith, enough))
-    by_kind Forgot same = let enough = others.enough in same_ones _ _ (omega (arith, enough))
-    by_kind (Got g) same = one_more g same (is g.message) refl
+    by_kind (Ask client name mode) same = let enough = others.enough in same_ones _ _ (omega (arith, enough))
+    by_kind (Leave client name) same = let enough = others.enough in same_ones _ _ (omega (arith, enough))
+    by_kind (Cancel client name) same = let enough = others.enough in same_ones _ _ (omega (arith, enough))
+    by_kind Forget same = let enough = others.enough in same_ones _ _ (omega (arith, enough))
+    by_kind (Receive g) same = one_more g same (is g.message) refl
 
 after_one : (p : Placed) (placed : List Placed) (prefix : List Step) (step : Step) → All (λ f. ComesBy placed f → ⊥) (frames_in p.event.kind) → PlaceOf placed prefix step
     → PlaceOf (p ∷ placed) (step_for p ∷ prefix) step
@@ -216,7 +216,7 @@ after_one p placed prefix step last found =
     }
 
 -- an event with its copy
-after_copy : (p : Placed) (placed : List Placed) (prefix : List Step) (step : Step) (g : Frame) → p.event.kind ≡ Got g → PlaceOf placed prefix step
+after_copy : (p : Placed) (placed : List Placed) (prefix : List Step) (step : Step) (g : Frame) → p.event.kind ≡ Receive g → PlaceOf placed prefix step
     → PlaceOf (p ∷ placed) (Repeat g.message ∷ step_for p ∷ prefix) step
 after_copy p placed prefix step g kind found =
     record {

@@ -8,7 +8,7 @@ use Rattle.ra_frame.specs.declared.frame.Frame.{Frame}
 use Rattle.ra_world.specs.declared.step.Step.{Step}
 use Rattle.ra_world.specs.declared.step.Step.TheVariants.{Repeat}
 use Rattle.ra_book.specs.declared.book.event.BookKind.{BookKind}
-use Rattle.ra_book.specs.declared.book.event.BookKind.TheVariants.{Asked, Gave, Cancelled, Got, Forgot}
+use Rattle.ra_book.specs.declared.book.event.BookKind.TheVariants.{Ask, Leave, Cancel, Receive, Forget}
 use Rattle.ra_book.specs.declared.settle_books.event_merge.PlacedEvent.{PlacedEvent}
 use Rattle.ra_book.specs.EventMerge.{placed_at, all_placed_at}
 use Rattle.ra_book.specs.Keys.{FrameKey, HasKeys, frame_key}
@@ -25,17 +25,17 @@ keys placed = map (λ f. frame_key f) (frames_by placed)
 -- ---- The set of what comes later
 
 -- no frame comes by an event of another kind
-pub none_by : (kind : BookKind) → ((f : Frame) → kind ≡ Got f → ⊥) → frames_in kind ≡ []
-none_by (Asked client name mode) other = refl
-none_by (Gave client name) other = refl
-none_by (Cancelled client name) other = refl
-none_by Forgot other = refl
-none_by (Got f) other = absurd (other f refl)
+pub none_by : (kind : BookKind) → ((f : Frame) → kind ≡ Receive f → ⊥) → frames_in kind ≡ []
+none_by (Ask client name mode) other = refl
+none_by (Leave client name) other = refl
+none_by (Cancel client name) other = refl
+none_by Forget other = refl
+none_by (Receive f) other = absurd (other f refl)
 
 pub come_same : (set : BTreeSet FrameKey) (p : Placed) (placed : List Placed) → frames_in p.event.kind ≡ [] → HasCome set placed → HasCome set (p ∷ placed)
 come_same set p placed none has = subst (λ (fs : List Frame). HasKeys set (map (λ f. frame_key f) (fs ++ frames_by placed))) (sym none) has
 
-pub come_more : (old new : BTreeSet FrameKey) (p : Placed) (placed : List Placed) (f : Frame) → p.event.kind ≡ Got f → HasCome old placed
+pub come_more : (old new : BTreeSet FrameKey) (p : Placed) (placed : List Placed) (f : Frame) → p.event.kind ≡ Receive f → HasCome old placed
     → sorted.Updates frame_cmp old new (frame_key f) true → HasCome new (p ∷ placed)
 come_more old new p placed f kind has put =
     let k = frame_key f in
@@ -74,13 +74,13 @@ pub none_in_front : (p : Placed) (placed : List Placed) (back : List Step) → f
     → AreWithCopies (p ∷ placed) (reverse (back ++ step_for p ∷ []))
 none_in_front p placed back none has = plain_in_front p placed back (subst (All (λ f. ComesBy placed f → ⊥)) (sym none) (All-nil (λ f. ComesBy placed f → ⊥))) has
 
-pub last_in_front : (p : Placed) (placed : List Placed) (back : List Step) (f : Frame) → p.event.kind ≡ Got f → (ComesBy placed f → ⊥) → AreWithCopies placed (reverse back)
+pub last_in_front : (p : Placed) (placed : List Placed) (back : List Step) (f : Frame) → p.event.kind ≡ Receive f → (ComesBy placed f → ⊥) → AreWithCopies placed (reverse back)
     → AreWithCopies (p ∷ placed) (reverse (back ++ step_for p ∷ []))
 last_in_front p placed back f kind last has =
     plain_in_front p placed back
     (subst (λ (b : BookKind). All (λ f. ComesBy placed f → ⊥) (frames_in b)) (sym kind) (All-cons (λ f. ComesBy placed f → ⊥) f [] last (All-nil (λ f. ComesBy placed f → ⊥)))) has
 
-pub copy_in_front : (p : Placed) (placed : List Placed) (back : List Step) (f : Frame) → p.event.kind ≡ Got f → ComesBy placed f → AreWithCopies placed (reverse back)
+pub copy_in_front : (p : Placed) (placed : List Placed) (back : List Step) (f : Frame) → p.event.kind ≡ Receive f → ComesBy placed f → AreWithCopies placed (reverse back)
     → AreWithCopies (p ∷ placed) (reverse ((back ++ step_for p ∷ []) ++ Repeat f.message ∷ []))
 copy_in_front p placed back f kind at has = (
   Repeat f.message ∷ [],

@@ -13,7 +13,7 @@ use Rattle.ra_world.specs.Traffic.{taken_in}
 use Rattle.ra_world.specs.Run.{events_at}
 use Rattle.ra_world.specs.Fitting.{sent_in, happened_by, WasSentBy}
 use Rattle.ra_book.specs.declared.book.event.BookKind.{BookKind}
-use Rattle.ra_book.specs.declared.book.event.BookKind.TheVariants.{Asked, Gave, Cancelled, Got, Forgot}
+use Rattle.ra_book.specs.declared.book.event.BookKind.TheVariants.{Ask, Leave, Cancel, Receive, Forget}
 use Rattle.ra_book.specs.declared.book.event.BookEvent.{BookEvent}
 use Rattle.ra_book.specs.History.{AreClocked, clock_after, node_event, happening_of, frames_of}
 use Rattle.ra_book.specs.Book.{BookState, nothing_taken}
@@ -33,11 +33,11 @@ abbrev AreEarlier : BookEvent → Type 0
 AreEarlier e = All (λ f. f.clock < e.clock) (frames_in e.kind)
 
 frames_earlier : (clock : ℕ) (kind : BookKind) → All (λ f. f.clock < clock_after clock kind) (frames_in kind)
-frames_earlier clock (Asked client name mode) = All-nil (λ f. f.clock < clock + 1)
-frames_earlier clock (Gave client name) = All-nil (λ f. f.clock < clock + 1)
-frames_earlier clock (Cancelled client name) = All-nil (λ f. f.clock < clock + 1)
-frames_earlier clock Forgot = All-nil (λ f. f.clock < clock + 1)
-frames_earlier clock (Got frame) =
+frames_earlier clock (Ask client name mode) = All-nil (λ f. f.clock < clock + 1)
+frames_earlier clock (Leave client name) = All-nil (λ f. f.clock < clock + 1)
+frames_earlier clock (Cancel client name) = All-nil (λ f. f.clock < clock + 1)
+frames_earlier clock Forget = All-nil (λ f. f.clock < clock + 1)
+frames_earlier clock (Receive frame) =
     All-cons (λ f. f.clock < max clock frame.clock + 1) frame [] (omega arith) (All-nil (λ f. f.clock < max clock frame.clock + 1))
 
 all_earlier : (clock : ℕ) (events : List BookEvent) → AreClocked clock events → All AreEarlier events
@@ -83,11 +83,11 @@ abbrev pub delivered : List Placed → List Message
 delivered placed = flat_map taken_in (steps_of placed)
 
 pub taken_is : (i : ℕ) (kind : BookKind) → taken_in (step_at i kind) ≡ map (λ f. f.message) (frames_in kind)
-taken_is i (Asked client name mode) = refl
-taken_is i (Gave client name) = refl
-taken_is i (Cancelled client name) = refl
-taken_is i Forgot = refl
-taken_is i (Got frame) = refl
+taken_is i (Ask client name mode) = refl
+taken_is i (Leave client name) = refl
+taken_is i (Cancel client name) = refl
+taken_is i Forget = refl
+taken_is i (Receive frame) = refl
 
 pub all_delivered : (P : Message → Type 0) (placed : List Placed) → All (λ p. All (λ f. P f.message) (frames_in p.event.kind)) placed → All P (delivered placed)
 all_delivered P placed all =
@@ -101,11 +101,11 @@ nothing_kept true = refl
 nothing_kept false = refl
 
 kept_there : (i node : ℕ) (kind : BookKind) → IsAddressed node kind → filter (λ m. eqb (to_of m) i) (taken_in (step_at node kind)) ≡ cond (eqb node i) (map (λ f. f.message) (frames_in kind)) []
-kept_there i node (Asked client name mode) to = sym (nothing_kept (eqb node i))
-kept_there i node (Gave client name) to = sym (nothing_kept (eqb node i))
-kept_there i node (Cancelled client name) to = sym (nothing_kept (eqb node i))
-kept_there i node Forgot to = sym (nothing_kept (eqb node i))
-kept_there i node (Got frame) to = ap (λ (n : ℕ). cond (eqb n i) (frame.message ∷ []) []) to
+kept_there i node (Ask client name mode) to = sym (nothing_kept (eqb node i))
+kept_there i node (Leave client name) to = sym (nothing_kept (eqb node i))
+kept_there i node (Cancel client name) to = sym (nothing_kept (eqb node i))
+kept_there i node Forget to = sym (nothing_kept (eqb node i))
+kept_there i node (Receive frame) to = ap (λ (n : ℕ). cond (eqb n i) (frame.message ∷ []) []) to
 
 -- those for a node are those that came there
 delivered_to : (i : ℕ) (placed : List Placed) → All (λ p. IsAddressed p.node p.event.kind) placed → filter (λ m. eqb (to_of m) i) (delivered placed) ≡ messages_among (events_of i placed)
@@ -242,11 +242,11 @@ module _ (books : List BookState) (placed : List Placed) (cluster : IsCluster bo
       (λ k d low. there (get_or placed k d).node (get_or placed k d).event.kind (order.no_others k d low) (addressed_all k d low))
     where
       there : (i : ℕ) (kind : BookKind) → (1 ≤ i) × (i ≤ n) → IsAddressed i kind → All (λ f. (1 ≤ to_of f.message) × (to_of f.message ≤ n)) (frames_in kind)
-      there i (Asked client name mode) within to = All-nil _
-      there i (Gave client name) within to = All-nil _
-      there i (Cancelled client name) within to = All-nil _
-      there i Forgot within to = All-nil _
-      there i (Got frame) within to =
+      there i (Ask client name mode) within to = All-nil _
+      there i (Leave client name) within to = All-nil _
+      there i (Cancel client name) within to = All-nil _
+      there i Forget within to = All-nil _
+      there i (Receive frame) within to =
           All-cons (λ f. (1 ≤ to_of f.message) × (to_of f.message ≤ n)) frame [] (omega (arith, within.0, to), omega (arith, within.1, to)) (All-nil _)
 
   came_apart : AreDifferent (map (λ f. f.message) (all_received books)) → (k : ℕ) (d : BookState) → k < length books → AreDifferent (messages_among (get_or books k d).events)

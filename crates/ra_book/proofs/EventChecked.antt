@@ -13,20 +13,20 @@ use Rattle.ra_node.specs.Node.{NodeState, resource_at}
 use Rattle.ra_book.specs.declared.error.BookError.{BookError}
 use Rattle.ra_book.specs.declared.error.BookError.TheVariants.{Memory}
 use Rattle.ra_book.specs.declared.book.event.BookKind.{BookKind}
-use Rattle.ra_book.specs.declared.book.event.BookKind.TheVariants.{Asked, Gave, Cancelled, Got, Forgot}
+use Rattle.ra_book.specs.declared.book.event.BookKind.TheVariants.{Ask, Leave, Cancel, Receive, Forget}
 use Rattle.ra_book.specs.Refused.{refusal_of_ask, refusal_of_receive}
 use Rattle.ra_book.specs.EventChecks.{MayTake, NodeRefuses, CanHappen, IsRefusedAfter}
 use Rattle.ra_book.proofs.Running.{ComesAt}
 
 -- no node refuses an event for lack of memory
 pub never_memory : (node : NodeState) (kind : BookKind) (why : BookError) → NodeRefuses node kind why → why ≢ Memory
-never_memory node (Asked client name mode) why (inl busy) is = let wrong = sym busy.0 ∙ is in absurd (cc)
-never_memory node (Asked client name mode) why (inr exhausted) is = let wrong = sym exhausted.0 ∙ is in absurd (cc)
-never_memory node (Gave client name) why refuses is = let wrong = sym refuses.0 ∙ is in absurd (cc)
-never_memory node (Cancelled client name) why refuses is = let wrong = sym refuses.0 ∙ is in absurd (cc)
-never_memory node Forgot why refuses is = absurd refuses
-never_memory node (Got frame) why (inl wrong_node) is = let wrong = sym wrong_node.0 ∙ is in absurd (cc)
-never_memory node (Got frame) why (inr stranger) is = let wrong = sym stranger.0 ∙ is in absurd (cc)
+never_memory node (Ask client name mode) why (inl busy) is = let wrong = sym busy.0 ∙ is in absurd (cc)
+never_memory node (Ask client name mode) why (inr exhausted) is = let wrong = sym exhausted.0 ∙ is in absurd (cc)
+never_memory node (Leave client name) why refuses is = let wrong = sym refuses.0 ∙ is in absurd (cc)
+never_memory node (Cancel client name) why refuses is = let wrong = sym refuses.0 ∙ is in absurd (cc)
+never_memory node Forget why refuses is = absurd refuses
+never_memory node (Receive frame) why (inl wrong_node) is = let wrong = sym wrong_node.0 ∙ is in absurd (cc)
+never_memory node (Receive frame) why (inr stranger) is = let wrong = sym stranger.0 ∙ is in absurd (cc)
 
 -- a refusal of the node that is passed on
 pub passed_why : (node : NodeState) (clock : ℕ) (kind : BookKind) (why : BookError) → NodeRefuses node kind why → (r : Result ℕ BookError)
@@ -58,7 +58,7 @@ abbrev ChecksNode : NodeState → BookKind → Result (Unit {0}) BookError → T
 ChecksNode node kind r = MatchResult r (λ _. MayTake node kind) (NodeRefuses node kind)
 
 asked : (node : NodeState) (client : ℕ) (name : List ℕ) (mode : Mode) (e : AskError) → AnswersMayAsk (resource_at node name) client (Err e)
-    → (r : Result (Unit {0}) BookError) → IsErrAnd r (λ x. x ≡ refusal_of_ask e) → ChecksNode node (Asked client name mode) r
+    → (r : Result (Unit {0}) BookError) → IsErrAnd r (λ x. x ≡ refusal_of_ask e) → ChecksNode node (Ask client name mode) r
 asked node client name mode e told (Ok done) h = absurd h
 asked node client name mode ask.Busy told (Err x) h = inl (h, told.busy.0 refl)
 asked node client name mode ask.Exhausted told (Err x) h = let is = told.exhausted.0 refl in inr (h, is.0, is.1)
@@ -66,7 +66,7 @@ asked node client name mode ask.Memory told (Err x) h = absurd (told.no_memory r
 
 addressed : (node : NodeState) (frame : Frame) (e : ReceiveError) → ChecksAddress {T = Unit {0}} node.me node.nodes frame.message (Err e)
     → (IsErrOf {T = Unit {0}} (Err e) receive.Memory → ⊥) → (r : Result (Unit {0}) BookError) → IsErrAnd r (λ x. x ≡ refusal_of_receive e)
-    → ChecksNode node (Got frame) r
+    → ChecksNode node (Receive frame) r
 addressed node frame e address no_memory (Ok done) h = absurd h
 addressed node frame receive.WrongNode address no_memory (Err x) h = inl (h, address.wrong_node.0 refl)
 addressed node frame receive.Stranger address no_memory (Err x) h = let is = address.stranger.0 refl in inr (h, is.0, is.1)
@@ -74,10 +74,10 @@ addressed node frame receive.Memory address no_memory (Err x) h = absurd (no_mem
 
 -- the event is this one
 module _ (node : NodeState) (kind : BookKind) where
-  pub asking_refused : (client : ℕ) (name : List ℕ) (mode : Mode) → kind ≡ Asked client name mode → (e : AskError)
+  pub asking_refused : (client : ℕ) (name : List ℕ) (mode : Mode) → kind ≡ Ask client name mode → (e : AskError)
       → AnswersMayAsk (resource_at node name) client (Err e) → (r : Result (Unit {0}) BookError) → IsErrAnd r (λ x. x ≡ refusal_of_ask e) → ChecksNode node kind r
   asking_refused client name mode is e told r h = subst (λ (k : BookKind). ChecksNode node k r) (sym is) (asked node client name mode e told r h)
 
-  pub address_refused : (frame : Frame) → kind ≡ Got frame → (e : ReceiveError) → ChecksAddress {T = Unit {0}} node.me node.nodes frame.message (Err e)
+  pub address_refused : (frame : Frame) → kind ≡ Receive frame → (e : ReceiveError) → ChecksAddress {T = Unit {0}} node.me node.nodes frame.message (Err e)
       → (IsErrOf {T = Unit {0}} (Err e) receive.Memory → ⊥) → (r : Result (Unit {0}) BookError) → IsErrAnd r (λ x. x ≡ refusal_of_receive e) → ChecksNode node kind r
   address_refused frame is e address no_memory r h = subst (λ (k : BookKind). ChecksNode node k r) (sym is) (addressed node frame e address no_memory r h)

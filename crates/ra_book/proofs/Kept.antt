@@ -14,7 +14,7 @@ use Rattle.ra_node.specs.Events.{Event, Happening, name_of_event, NodeEvent, Nod
 use Rattle.ra_node.specs.Events.Event.{Ask, Leave, Cancel, Receive, Forget}
 use Rattle.ra_node.specs.Carried.{IsSend, sends_at_most, marks_at_most}
 use Rattle.ra_book.specs.declared.book.event.BookKind.{BookKind}
-use Rattle.ra_book.specs.declared.book.event.BookKind.TheVariants.{Asked, Gave, Cancelled, Got, Forgot}
+use Rattle.ra_book.specs.declared.book.event.BookKind.TheVariants as kinds
 use Rattle.ra_book.specs.declared.book.event.BookEvent.{BookEvent}
 use Rattle.ra_book.specs.declared.book.sent.Sent.{Sent}
 use Rattle.ra_book.specs.declared.book.stop.Stop.{Stop}
@@ -102,14 +102,14 @@ module _
             → (book : BookState) (old new : NodeState) (kind : BookKind) (sends : List Message) (marks : List Mark)
             → Keeps book old → NodeEvent old (node_event kind) sends marks new
             → length sends ≤ sends_by book.nodes kind
-        few room book old new (Asked client name mode) sends marks keeps happens =
+        few room book old new (kinds.Ask client name mode) sends marks keeps happens =
             subst (λ (n : ℕ). length sends ≤ n) (who book old keeps).1 (room old new (Ask client name mode) sends marks (consistent book old keeps) happens).0
-        few room book old new (Gave client name) sends marks keeps happens =
+        few room book old new (kinds.Leave client name) sends marks keeps happens =
             subst (λ (n : ℕ). length sends ≤ 2 * n) (who book old keeps).1 (room old new (Leave client name) sends marks (consistent book old keeps) happens).0
-        few room book old new (Cancelled client name) sends marks keeps happens =
+        few room book old new (kinds.Cancel client name) sends marks keeps happens =
             subst (λ (n : ℕ). length sends ≤ 2 * n) (who book old keeps).1 (room old new (Cancel client name) sends marks (consistent book old keeps) happens).0
-        few room book old new Forgot sends marks keeps happens = (room old new Forget sends marks (consistent book old keeps) happens).0
-        few room book old new (Got frame) sends marks keeps happens = by_message frame.message happens
+        few room book old new kinds.Forget sends marks keeps happens = (room old new Forget sends marks (consistent book old keeps) happens).0
+        few room book old new (kinds.Receive frame) sends marks keeps happens = by_message frame.message happens
           where
             -- a REPLY is answered by nothing
             by_message : (message : Message) → NodeEvent old (Receive message) sends marks new → length sends ≤ answers_to message
@@ -117,21 +117,21 @@ module _
             by_message (Reply from to name seq) happens = subst (λ (ms : List Message). length ms ≤ 0) (sym happens.turn.step.0) (omega arith)
 
         -- the frame that comes has a number
-        numbered_by : (kind : BookKind) (message : Message) → ((frame : Frame) → kind ≡ Got frame → Fits frame) → node_event kind ≡ Receive message → 1 ≤ seq_of message
-        numbered_by (Asked client name mode) message fits is = absurd (cc)
-        numbered_by (Gave client name) message fits is = absurd (cc)
-        numbered_by (Cancelled client name) message fits is = absurd (cc)
-        numbered_by Forgot message fits is = absurd (cc)
-        numbered_by (Got frame) message fits is =
+        numbered_by : (kind : BookKind) (message : Message) → ((frame : Frame) → kind ≡ kinds.Receive frame → Fits frame) → node_event kind ≡ Receive message → 1 ≤ seq_of message
+        numbered_by (kinds.Ask client name mode) message fits is = absurd (cc)
+        numbered_by (kinds.Leave client name) message fits is = absurd (cc)
+        numbered_by (kinds.Cancel client name) message fits is = absurd (cc)
+        numbered_by kinds.Forget message fits is = absurd (cc)
+        numbered_by (kinds.Receive frame) message fits is =
             let same : frame.message ≡ message = cc in
             subst (λ (m : Message). 1 ≤ seq_of m) same (fits frame refl).seq
 
         clock_rises : (clock : ℕ) (kind : BookKind) → 1 ≤ clock_after clock kind
-        clock_rises clock (Asked client name mode) = omega arith
-        clock_rises clock (Gave client name) = omega arith
-        clock_rises clock (Cancelled client name) = omega arith
-        clock_rises clock Forgot = omega arith
-        clock_rises clock (Got frame) = omega arith
+        clock_rises clock (kinds.Ask client name mode) = omega arith
+        clock_rises clock (kinds.Leave client name) = omega arith
+        clock_rises clock (kinds.Cancel client name) = omega arith
+        clock_rises clock kinds.Forget = omega arith
+        clock_rises clock (kinds.Receive frame) = omega arith
 
         pub fit :
             ((old new : NodeState) (event : Event) (sends : List Message) (marks : List Mark)
@@ -143,7 +143,7 @@ module _
             → All (λ message. 1 ≤ seq_of message) sends)
             → (book : BookState) (old new : NodeState) (kind : BookKind) (sends : List Message) (marks : List Mark)
             → Keeps book old → IsForThisNode old (node_event kind) → NodeEvent old (node_event kind) sends marks new
-            → HasClock book kind → ((frame : Frame) → kind ≡ Got frame → Fits frame)
+            → HasClock book kind → ((frame : Frame) → kind ≡ kinds.Receive frame → Fits frame)
             → All Fits (frames_at (next_clock book kind) sends)
         fit sent_to numbered book old new kind sends marks keeps for_it happens low fits =
             let event = node_event kind in

@@ -13,7 +13,7 @@ use Rattle.ra_automaton.specs.State.{IsForNode}
 use Rattle.ra_frame.specs.declared.frame.Frame.{Frame}
 use Rattle.ra_node.specs.Node.{NodeState, opening_node, IsConsistentNode}
 use Rattle.ra_node.specs.Events.{Event, Happening, name_of_event, NodeEvent, NodeEvents, IsForThisNode, AreForThisNode}
-use Rattle.ra_node.specs.Events.Event.{Ask as AskedFor, Leave as GivenBack, Cancel as GivenUp, Receive as Received, Forget as Forgot}
+use Rattle.ra_node.specs.Events.{Event as acts}
 use Rattle.ra_node.specs.Carried.{IsMark}
 use Rattle.ra_world.specs.declared.step.Step.{Step}
 use Rattle.ra_world.specs.declared.step.Step.TheVariants.{Ask, Leave, Cancel, Deliver, Lose, Repeat, Forget}
@@ -45,12 +45,12 @@ module _ (n start : ℕ) (prefixes : (prefix suffix : List Move) → IsRun n sta
   -- the node at which a step is an event
   node_of : (prefix : List Move) (step : Step) (sends : List Message) (marks : List Mark) → IsRun n start prefix → IsFit n prefix step sends marks → Contains marks mark
       → (i : ℕ) × ((1 ≤ i) × (i ≤ n)) × (event : Event) × (events_at i step ≡ event ∷ [])
-  node_of prefix (Ask node client name mode) sends marks run fit is = (node, fit, AskedFor client name mode, ap (λ b. cond b (AskedFor client name mode ∷ []) []) (eq-eqb node node refl))
-  node_of prefix (Leave node client name) sends marks run fit is = (node, fit, GivenBack client name, ap (λ b. cond b (GivenBack client name ∷ []) []) (eq-eqb node node refl))
-  node_of prefix (Cancel node client name) sends marks run fit is = (node, fit, GivenUp client name, ap (λ b. cond b (GivenUp client name ∷ []) []) (eq-eqb node node refl))
-  node_of prefix (Forget node) sends marks run fit is = (node, fit, Forgot, ap (λ b. cond b (Forgot ∷ []) []) (eq-eqb node node refl))
+  node_of prefix (Ask node client name mode) sends marks run fit is = (node, fit, acts.Ask client name mode, ap (λ b. cond b (acts.Ask client name mode ∷ []) []) (eq-eqb node node refl))
+  node_of prefix (Leave node client name) sends marks run fit is = (node, fit, acts.Leave client name, ap (λ b. cond b (acts.Leave client name ∷ []) []) (eq-eqb node node refl))
+  node_of prefix (Cancel node client name) sends marks run fit is = (node, fit, acts.Cancel client name, ap (λ b. cond b (acts.Cancel client name ∷ []) []) (eq-eqb node node refl))
+  node_of prefix (Forget node) sends marks run fit is = (node, fit, acts.Forget, ap (λ b. cond b (acts.Forget ∷ []) []) (eq-eqb node node refl))
   node_of prefix (Deliver message) sends marks run fit is =
-      let i = to_of message in (i, goes prefix message run fit, Received message, ap (λ b. cond b (Received message ∷ []) []) (eq-eqb i i refl))
+      let i = to_of message in (i, goes prefix message run fit, acts.Receive message, ap (λ b. cond b (acts.Receive message ∷ []) []) (eq-eqb i i refl))
   node_of prefix (Lose message) sends marks run fit is = absurd (unmarked marks fit.2 is)
   node_of prefix (Repeat message) sends marks run fit is = absurd (unmarked marks fit.2 is)
 
@@ -96,11 +96,11 @@ made_there i (m ∷ moves) mark is =
 -- ---- The marks of a node are its own
 
 pub for_next : (old next : NodeState) (event : Event) → next.me ≡ old.me → next.nodes ≡ old.nodes → IsForThisNode old event → IsForThisNode next event
-for_next old next (AskedFor client name mode) me nodes h = tt
-for_next old next (GivenBack client name) me nodes h = tt
-for_next old next (GivenUp client name) me nodes h = tt
-for_next old next Forgot me nodes h = tt
-for_next old next (Received message) me nodes h =
+for_next old next (acts.Ask client name mode) me nodes h = tt
+for_next old next (acts.Leave client name) me nodes h = tt
+for_next old next (acts.Cancel client name) me nodes h = tt
+for_next old next acts.Forget me nodes h = tt
+for_next old next (acts.Receive message) me nodes h =
     subst (λ (k : ℕ). IsForNode k next.nodes message) (sym me) (subst (λ (k : ℕ). IsForNode old.me k message) (sym nodes) h)
 
 module _ (keeps : (old new : NodeState) (event : Event) (sends : List Message) (marks : List Mark) → IsConsistentNode old → IsForThisNode old event → NodeEvent old event sends marks new → IsConsistentNode new)

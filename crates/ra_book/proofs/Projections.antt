@@ -12,12 +12,12 @@ use Rattle.ra_stamp.specs.declared.message.Message.{Message}
 use Rattle.ra_stamp.specs.Message.{to_of}
 use Rattle.ra_node.specs.Node.{opening_node}
 use Rattle.ra_node.specs.Events.{Event, Happening, IsForThisNode}
-use Rattle.ra_node.specs.Events.Event.{Receive as Received}
+use Rattle.ra_node.specs.Events.{Event as acts}
 use Rattle.ra_world.specs.declared.step.Step.TheVariants.{Lose}
 use Rattle.ra_world.specs.Traffic.{Move, lost_in, lost_by, repeated_in, repeated_by}
 use Rattle.ra_world.specs.Run.{IsRun, events_at, happened_at}
 use Rattle.ra_book.specs.declared.book.event.BookKind.{BookKind}
-use Rattle.ra_book.specs.declared.book.event.BookKind.TheVariants.{Asked, Gave, Cancelled, Got, Forgot}
+use Rattle.ra_book.specs.declared.book.event.BookKind.TheVariants.{Ask, Leave, Cancel, Receive, Forget}
 use Rattle.ra_book.specs.declared.book.event.BookEvent.{BookEvent}
 use Rattle.ra_book.specs.History.{happening_of, node_event}
 use Rattle.ra_book.specs.Book.{BookState, nothing_taken}
@@ -53,11 +53,11 @@ lost_by_losses [] = refl
 lost_by_losses (m ∷ ms) = ap (λ (xs : List Message). m ∷ xs) (lost_by_losses ms)
 
 pub lost_in_event : (i : ℕ) (kind : BookKind) → lost_in (step_at i kind) ≡ []
-lost_in_event i (Asked client name mode) = refl
-lost_in_event i (Gave client name) = refl
-lost_in_event i (Cancelled client name) = refl
-lost_in_event i Forgot = refl
-lost_in_event i (Got frame) = refl
+lost_in_event i (Ask client name mode) = refl
+lost_in_event i (Leave client name) = refl
+lost_in_event i (Cancel client name) = refl
+lost_in_event i Forget = refl
+lost_in_event i (Receive frame) = refl
 
 pub nothing_lost : (placed : List Placed) → flat_map lost_in (steps_of placed) ≡ []
 nothing_lost [] = refl
@@ -70,11 +70,11 @@ repeated_by_steps [] = refl
 repeated_by_steps (m ∷ moves) = ap (λ (ms : List Message). repeated_in m.step ++ ms) (repeated_by_steps moves)
 
 pub repeated_in_event : (i : ℕ) (kind : BookKind) → repeated_in (step_at i kind) ≡ []
-repeated_in_event i (Asked client name mode) = refl
-repeated_in_event i (Gave client name) = refl
-repeated_in_event i (Cancelled client name) = refl
-repeated_in_event i Forgot = refl
-repeated_in_event i (Got frame) = refl
+repeated_in_event i (Ask client name mode) = refl
+repeated_in_event i (Leave client name) = refl
+repeated_in_event i (Cancel client name) = refl
+repeated_in_event i Forget = refl
+repeated_in_event i (Receive frame) = refl
 
 by_events : (placed : List Placed) → flat_map repeated_in (steps_of placed) ≡ []
 by_events [] = refl
@@ -96,18 +96,18 @@ nothing_repeated moves placed ms steps = repeated_by_steps moves ∙ ap (flat_ma
 
 -- a frame came to the node to which it was to go
 abbrev pub IsAddressed : ℕ → BookKind → Type 0
-IsAddressed i (Asked client name mode) = Unit {0}
-IsAddressed i (Gave client name) = Unit {0}
-IsAddressed i (Cancelled client name) = Unit {0}
-IsAddressed i Forgot = Unit {0}
-IsAddressed i (Got frame) = to_of frame.message ≡ i
+IsAddressed i (Ask client name mode) = Unit {0}
+IsAddressed i (Leave client name) = Unit {0}
+IsAddressed i (Cancel client name) = Unit {0}
+IsAddressed i Forget = Unit {0}
+IsAddressed i (Receive frame) = to_of frame.message ≡ i
 
 pub one_event : (i node : ℕ) (kind : BookKind) → IsAddressed node kind → events_at i (step_at node kind) ≡ cond (eqb node i) (node_event kind ∷ []) []
-one_event i node (Asked client name mode) h = refl
-one_event i node (Gave client name) h = refl
-one_event i node (Cancelled client name) h = refl
-one_event i node Forgot h = refl
-one_event i node (Got frame) h = ap (λ (n : ℕ). cond (eqb n i) (Received frame.message ∷ []) []) h
+one_event i node (Ask client name mode) h = refl
+one_event i node (Leave client name) h = refl
+one_event i node (Cancel client name) h = refl
+one_event i node Forget h = refl
+one_event i node (Receive frame) h = ap (λ (n : ℕ). cond (eqb n i) (acts.Receive frame.message ∷ []) []) h
 
 pub projected : (i : ℕ) (placed : List Placed) → All (λ p. IsAddressed p.node p.event.kind) placed → flat_map (events_at i) (steps_of placed) ≡ map (λ e. node_event e.kind) (events_of i placed)
 projected i [] h = refl
@@ -135,11 +135,11 @@ for_this_node b history =
     (All-map (λ e. IsForThisNode old (node_event e.kind)) (λ p. p.event) postings (of_map (λ h. IsForThisNode old h.event) happening_of postings history.leads.for_this_node))
 
 addressed : (b : BookState) (kind : BookKind) → IsForThisNode (opening_node b.me b.nodes b.start) (node_event kind) → IsAddressed b.me kind
-addressed b (Asked client name mode) h = tt
-addressed b (Gave client name) h = tt
-addressed b (Cancelled client name) h = tt
-addressed b Forgot h = tt
-addressed b (Got frame) h = h.to
+addressed b (Ask client name mode) h = tt
+addressed b (Leave client name) h = tt
+addressed b (Cancel client name) h = tt
+addressed b Forget h = tt
+addressed b (Receive frame) h = h.to
 
 -- what is in the order is among the events of its node
 among : (placed : List Placed) (k : ℕ) (d : Placed) → k < length placed → Contains (events_of (get_or placed k d).node placed) (get_or placed k d).event

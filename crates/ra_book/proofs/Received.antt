@@ -9,7 +9,7 @@ use Rattle.std.proofs.lemmas.List.Concat.{flat_map-append}
 use Rattle.ra_stamp.specs.declared.message.Message.{Message}
 use Rattle.ra_frame.specs.declared.frame.Frame.{Frame}
 use Rattle.ra_book.specs.declared.book.event.BookKind.{BookKind}
-use Rattle.ra_book.specs.declared.book.event.BookKind.TheVariants.{Asked, Gave, Cancelled, Got, Forgot}
+use Rattle.ra_book.specs.declared.book.event.BookKind.TheVariants.{Ask, Leave, Cancel, Receive, Forget}
 use Rattle.ra_book.specs.declared.book.event.BookEvent.{BookEvent}
 use Rattle.ra_book.specs.Keys.{OrderKey, HasEach, message_key, messages_among}
 use Rattle.ra_book.specs.Book.{BookState}
@@ -37,12 +37,12 @@ pub all_received_split : (books : List BookState) (i : ℕ) (b : BookState) → 
     → all_received books ≡ all_received (take i books) ++ (received_among b.events ++ all_received (drop (i + 1) books))
 all_received_split books i b within at = ap all_received (split books i b within at) ∙ flat_map-append (λ b. received_among b.events) (take i books) (b ∷ drop (i + 1) books)
 
-pub nothing_in : (kind : BookKind) → ((frame : Frame) → kind ≡ Got frame → ⊥) → frames_in kind ≡ []
-nothing_in (Asked client name mode) none = refl
-nothing_in (Gave client name) none = refl
-nothing_in (Cancelled client name) none = refl
-nothing_in Forgot none = refl
-nothing_in (Got frame) none = absurd (none frame refl)
+pub nothing_in : (kind : BookKind) → ((frame : Frame) → kind ≡ Receive frame → ⊥) → frames_in kind ≡ []
+nothing_in (Ask client name mode) none = refl
+nothing_in (Leave client name) none = refl
+nothing_in (Cancel client name) none = refl
+nothing_in Forget none = refl
+nothing_in (Receive frame) none = absurd (none frame refl)
 
 -- all of them, with those of one more event
 pub all_more : (P : Frame → Type 0) (events : List BookEvent) (i : ℕ) (e : BookEvent) → i < length events → e ≡ get_or events i e → All P (received_among (take i events)) → All P (frames_in e.kind)
@@ -50,15 +50,15 @@ pub all_more : (P : Frame → Type 0) (events : List BookEvent) (i : ℕ) (e : B
 all_more P events i e within at before here =
     subst (All P) (sym (received_more events i e within at)) (All-append P (received_among (take i events)) (frames_in e.kind) before here)
 
-pub all_in_got : (P : Frame → Type 0) (kind : BookKind) (frame : Frame) → kind ≡ Got frame → P frame → All P (frames_in kind)
-all_in_got P kind frame is p = subst (λ (k : BookKind). All P (frames_in k)) (sym is) (All-cons P frame [] p (All-nil P))
+pub all_in_received : (P : Frame → Type 0) (kind : BookKind) (frame : Frame) → kind ≡ Receive frame → P frame → All P (frames_in kind)
+all_in_received P kind frame is p = subst (λ (k : BookKind). All P (frames_in k)) (sym is) (All-cons P frame [] p (All-nil P))
 
-pub all_in_none : (P : Frame → Type 0) (kind : BookKind) → ((frame : Frame) → kind ≡ Got frame → ⊥) → All P (frames_in kind)
+pub all_in_none : (P : Frame → Type 0) (kind : BookKind) → ((frame : Frame) → kind ≡ Receive frame → ⊥) → All P (frames_in kind)
 all_in_none P kind none = subst (All P) (sym (nothing_in kind none)) (All-nil P)
 
 -- one of them
-pub some_got : (P : Frame → Type 0) (events : List BookEvent) (i : ℕ) (e : BookEvent) (frame : Frame) → i < length events → e ≡ get_or events i e → e.kind ≡ Got frame → P frame → Any P (received_among events)
-some_got P events i e frame within at is p =
+pub some_received : (P : Frame → Type 0) (events : List BookEvent) (i : ℕ) (e : BookEvent) (frame : Frame) → i < length events → e ≡ get_or events i e → e.kind ≡ Receive frame → P frame → Any P (received_among events)
+some_received P events i e frame within at is p =
     subst (Any P) (sym (received_split events i e within at))
     (any_right P (received_among (take i events)) (frames_in e.kind ++ received_among (drop (i + 1) events))
     (any_left P (frames_in e.kind) (received_among (drop (i + 1) events)) (subst (λ (k : BookKind). Any P (frames_in k)) (sym is) (any_first P frame [] p))))
@@ -81,18 +81,18 @@ module _ (list : List Message) (events : List BookEvent) (i : ℕ) (e : BookEven
   messages_more : messages_among (take (i + 1) events) ≡ messages_among (take i events) ++ map (λ f. f.message) (frames_in e.kind)
   messages_more = ap (map (λ f. f.message)) (received_more events i e within at) ∙ map-append (λ f. f.message) (received_among (take i events)) (frames_in e.kind)
 
-  pub each_more : (set : BTreeSet OrderKey) (frame : Frame) → e.kind ≡ Got frame → HasEach set ((list ++ messages_among (take i events)) ++ frame.message ∷ []) → HasEach set (list ++ messages_among (take (i + 1) events))
+  pub each_more : (set : BTreeSet OrderKey) (frame : Frame) → e.kind ≡ Receive frame → HasEach set ((list ++ messages_among (take i events)) ++ frame.message ∷ []) → HasEach set (list ++ messages_among (take (i + 1) events))
   each_more set frame is has =
       subst (HasEach set)
       (append_assoc list (messages_among (take i events)) (frame.message ∷ [])
       ∙ ap (λ (ms : List Message). list ++ ms) (sym (messages_more ∙ ap (λ (k : BookKind). messages_among (take i events) ++ map (λ f. f.message) (frames_in k)) is))) has
 
-  pub each_same : (set : BTreeSet OrderKey) → ((frame : Frame) → e.kind ≡ Got frame → ⊥) → HasEach set (list ++ messages_among (take i events)) → HasEach set (list ++ messages_among (take (i + 1) events))
+  pub each_same : (set : BTreeSet OrderKey) → ((frame : Frame) → e.kind ≡ Receive frame → ⊥) → HasEach set (list ++ messages_among (take i events)) → HasEach set (list ++ messages_among (take (i + 1) events))
   each_same set none has =
       subst (λ (ms : List Message). HasEach set (list ++ ms))
       (sym (messages_more ∙ ap (λ (fs : List Frame). messages_among (take i events) ++ map (λ f. f.message) fs) (nothing_in e.kind none) ∙ append-nil (messages_among (take i events)))) has
 
-  pub repeats_then : (frame : Frame) → e.kind ≡ Got frame → Repeats ((list ++ messages_among (take i events)) ++ frame.message ∷ []) → Repeats (list ++ messages_among events)
+  pub repeats_then : (frame : Frame) → e.kind ≡ Receive frame → Repeats ((list ++ messages_among (take i events)) ++ frame.message ∷ []) → Repeats (list ++ messages_among events)
   repeats_then frame is repeats =
       let rest : List Message = map (λ f. f.message) (received_among (drop (i + 1) events)) in
       let all : messages_among events ≡ messages_among (take i events) ++ (frame.message ∷ rest) =

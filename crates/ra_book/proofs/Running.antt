@@ -13,7 +13,7 @@ use Rattle.ra_node.specs.Node.{NodeState, resource_at}
 use Rattle.ra_book.specs.declared.error.BookError.{BookError}
 use Rattle.ra_book.specs.declared.error.BookError.TheVariants.{Failed, Busy, Exhausted, NotHeld, NotWaiting, ClockFull, Memory}
 use Rattle.ra_book.specs.declared.book.event.BookKind.{BookKind}
-use Rattle.ra_book.specs.declared.book.event.BookKind.TheVariants.{Asked, Gave, Cancelled}
+use Rattle.ra_book.specs.declared.book.event.BookKind.TheVariants.{Ask, Leave, Cancel}
 use Rattle.ra_book.specs.declared.book.stop.Stop.{Stop}
 use Rattle.ra_book.specs.Refused.{refusal_of_ask}
 use Rattle.ra_book.specs.EventChecks.{CanHappen, IsRefusedAfter}
@@ -179,7 +179,7 @@ module _ (book : BookState) (client : ℕ) (name : List ℕ) (mode : Mode) where
     }
 
     -- the node allows it, and no clock is left
-    ask_full : {T : Type 0} → MayAsk (resource_at node name) client → (HasClock book (Asked client name mode) → ⊥)
+    ask_full : {T : Type 0} → MayAsk (resource_at node name) client → (HasClock book (Ask client name mode) → ⊥)
         → (x : BookError) → x ≡ ClockFull → AnswersAsk {T = T} book client name mode (Err x)
     ask_full may full x h = record {
       failed = (λ is. absurd (cc), λ some. absurd (has_fault book.fault some none));
@@ -190,7 +190,7 @@ module _ (book : BookState) (client : ℕ) (name : List ℕ) (mode : Mode) where
     }
 
     -- the node allows it, and a clock is left
-    pub ask_allowed : {T : Type 0} (v : T) → MayAsk (resource_at node name) client → HasClock book (Asked client name mode) → AnswersAsk book client name mode (Ok v)
+    pub ask_allowed : {T : Type 0} (v : T) → MayAsk (resource_at node name) client → HasClock book (Ask client name mode) → AnswersAsk book client name mode (Ok v)
     ask_allowed v may has = record {
       failed = (λ is. absurd (cc), λ some. absurd (has_fault book.fault some none));
       busy = (λ is. absurd (cc), λ runs. absurd (may.not_busy ((at _).0 runs).1));
@@ -200,14 +200,14 @@ module _ (book : BookState) (client : ℕ) (name : List ℕ) (mode : Mode) where
     }
 
     -- and memory runs out
-    ask_memory : {T : Type 0} → MayAsk (resource_at node name) client → HasClock book (Asked client name mode) → (x : BookError) → x ≡ Memory
+    ask_memory : {T : Type 0} → MayAsk (resource_at node name) client → HasClock book (Ask client name mode) → (x : BookError) → x ≡ Memory
         → AnswersAsk {T = T} book client name mode (Err x)
     ask_memory may has x h = ask_added {T = List ℕ} [] (ask_allowed {T = List ℕ} [] may has) (Err x) h
 
     -- the node answers it, and a clock is left
     pub ask_answered : {S T : Type 0} (e : AskError) → IsErrOf {T = S} (Err e) ask.Busy ↔ IsBusy (resource_at node name) client
         → IsErrOf {T = S} (Err e) ask.Exhausted ↔ ((IsBusy (resource_at node name) client → ⊥) × ((resource_at node name).state.highest ≡ greatest_number))
-        → IsOkUnless {T = S} (Err e) ask.Memory ↔ MayAsk (resource_at node name) client → HasClock book (Asked client name mode)
+        → IsOkUnless {T = S} (Err e) ask.Memory ↔ MayAsk (resource_at node name) client → HasClock book (Ask client name mode)
         → (r : Result T BookError) → IsErrAnd r (λ x. x ≡ refusal_of_ask e) → AnswersAsk book client name mode r
     ask_answered e busy exhausted allowed has (Ok v) h = absurd h
     ask_answered ask.Busy busy exhausted allowed has (Err x) h = ask_busy (busy.0 refl) x h
@@ -215,14 +215,14 @@ module _ (book : BookState) (client : ℕ) (name : List ℕ) (mode : Mode) where
     ask_answered ask.Memory busy exhausted allowed has (Err x) h = ask_memory (allowed.0 refl) has x h
 
     -- it is refused, unless memory is there
-    pub ask_refused : (clock : ℕ) → clock ≡ clock_of (whole_events book) → (why : BookError) → IsRefusedAfter node clock (Asked client name mode) why
+    pub ask_refused : (clock : ℕ) → clock ≡ clock_of (whole_events book) → (why : BookError) → IsRefusedAfter node clock (Ask client name mode) why
         → RefusesAsk book client name mode why
     ask_refused clock is why (inl (inl busy)) = ask_busy busy.1 why busy.0
     ask_refused clock is why (inl (inr exhausted)) = ask_exhausted exhausted.1 exhausted.2 why exhausted.0
     ask_refused clock is why (inr (inl full)) =
-        ask_full full.1 (has_next book clock (Asked client name mode) is (Err ClockFull) (refl, full.2)).1 why full.0
+        ask_full full.1 (has_next book clock (Ask client name mode) is (Err ClockFull) (refl, full.2)).1 why full.0
     ask_refused clock is why (inr (inr memory)) =
-        ask_memory memory.1 (has_next book clock (Asked client name mode) is (Ok (clock_after clock (Asked client name mode))) (refl, memory.2)) why memory.0
+        ask_memory memory.1 (has_next book clock (Ask client name mode) is (Ok (clock_after clock (Ask client name mode))) (refl, memory.2)) why memory.0
 
 -- ---- A leave
 
@@ -250,7 +250,7 @@ module _ (book : BookState) (client : ℕ) (name : List ℕ) where
     }
 
     -- it holds it, and no clock is left
-    leave_full : {T : Type 0} → IsHeld node client name → (HasClock book (Gave client name) → ⊥) → (x : BookError) → x ≡ ClockFull
+    leave_full : {T : Type 0} → IsHeld node client name → (HasClock book (Leave client name) → ⊥) → (x : BookError) → x ≡ ClockFull
         → AnswersLeave {T = T} book client name (Err x)
     leave_full held full x h = record {
       failed = (λ is. absurd (cc), λ some. absurd (has_fault book.fault some none));
@@ -260,7 +260,7 @@ module _ (book : BookState) (client : ℕ) (name : List ℕ) where
     }
 
     -- it holds it, and a clock is left
-    pub leave_allowed : {T : Type 0} (v : T) → IsHeld node client name → HasClock book (Gave client name) → AnswersLeave book client name (Ok v)
+    pub leave_allowed : {T : Type 0} (v : T) → IsHeld node client name → HasClock book (Leave client name) → AnswersLeave book client name (Ok v)
     leave_allowed v held has = record {
       failed = (λ is. absurd (cc), λ some. absurd (has_fault book.fault some none));
       not_held = (λ is. absurd (cc), λ runs. absurd (((at _).0 runs).1 held.0 held.1));
@@ -270,13 +270,13 @@ module _ (book : BookState) (client : ℕ) (name : List ℕ) where
 
     -- the check of it
     pub leave_checked : (clock : ℕ) → clock ≡ clock_of (whole_events book) → (r : Result ℕ BookError) → IfErr r (λ e. e ≢ Memory)
-        → MatchResult r (CanHappen node clock (Gave client name)) (IsRefusedAfter node clock (Gave client name)) → IfErr r (RefusesLeave book client name)
+        → MatchResult r (CanHappen node clock (Leave client name)) (IsRefusedAfter node clock (Leave client name)) → IfErr r (RefusesLeave book client name)
     leave_checked clock is (Ok next) other can = tt
     leave_checked clock is (Err e) other refused = by_cause e other refused
       where
-        by_cause : (x : BookError) → x ≢ Memory → IsRefusedAfter node clock (Gave client name) x → RefusesLeave book client name x
+        by_cause : (x : BookError) → x ≢ Memory → IsRefusedAfter node clock (Leave client name) x → RefusesLeave book client name x
         by_cause x other (inl not_held) = leave_not_held (λ held. not_held.1 held.0 held.1) x not_held.0
-        by_cause x other (inr (inl full)) = leave_full full.1 (has_next book clock (Gave client name) is (Err ClockFull) (refl, full.2)).1 x full.0
+        by_cause x other (inr (inl full)) = leave_full full.1 (has_next book clock (Leave client name) is (Err ClockFull) (refl, full.2)).1 x full.0
         by_cause x other (inr (inr memory)) = absurd (other memory.0)
 
   pub leave_passed : {T S : Type 0} (e : BookError) → AnswersLeave {T = T} book client name (Err e)
@@ -315,7 +315,7 @@ module _ (book : BookState) (client : ℕ) (name : List ℕ) where
     }
 
     -- it does, and no clock is left
-    cancel_full : {T : Type 0} → IsKept node client name → (HasClock book (Cancelled client name) → ⊥) → (x : BookError) → x ≡ ClockFull
+    cancel_full : {T : Type 0} → IsKept node client name → (HasClock book (Cancel client name) → ⊥) → (x : BookError) → x ≡ ClockFull
         → AnswersCancel {T = T} book client name (Err x)
     cancel_full kept full x h = record {
       failed = (λ is. absurd (cc), λ some. absurd (has_fault book.fault some none));
@@ -325,7 +325,7 @@ module _ (book : BookState) (client : ℕ) (name : List ℕ) where
     }
 
     -- it does, and a clock is left
-    pub cancel_allowed : {T : Type 0} (v : T) → IsKept node client name → HasClock book (Cancelled client name) → AnswersCancel book client name (Ok v)
+    pub cancel_allowed : {T : Type 0} (v : T) → IsKept node client name → HasClock book (Cancel client name) → AnswersCancel book client name (Ok v)
     cancel_allowed v kept has = record {
       failed = (λ is. absurd (cc), λ some. absurd (has_fault book.fault some none));
       not_waiting = (λ is. absurd (cc), λ runs. absurd (((at _).0 runs).1 kept));
@@ -335,13 +335,13 @@ module _ (book : BookState) (client : ℕ) (name : List ℕ) where
 
     -- the check of it
     pub cancel_checked : (clock : ℕ) → clock ≡ clock_of (whole_events book) → (r : Result ℕ BookError) → IfErr r (λ e. e ≢ Memory)
-        → MatchResult r (CanHappen node clock (Cancelled client name)) (IsRefusedAfter node clock (Cancelled client name)) → IfErr r (RefusesCancel book client name)
+        → MatchResult r (CanHappen node clock (Cancel client name)) (IsRefusedAfter node clock (Cancel client name)) → IfErr r (RefusesCancel book client name)
     cancel_checked clock is (Ok next) other can = tt
     cancel_checked clock is (Err e) other refused = by_cause e other refused
       where
-        by_cause : (x : BookError) → x ≢ Memory → IsRefusedAfter node clock (Cancelled client name) x → RefusesCancel book client name x
+        by_cause : (x : BookError) → x ≢ Memory → IsRefusedAfter node clock (Cancel client name) x → RefusesCancel book client name x
         by_cause x other (inl not_waiting) = cancel_not_waiting not_waiting.1 x not_waiting.0
-        by_cause x other (inr (inl full)) = cancel_full full.1 (has_next book clock (Cancelled client name) is (Err ClockFull) (refl, full.2)).1 x full.0
+        by_cause x other (inr (inl full)) = cancel_full full.1 (has_next book clock (Cancel client name) is (Err ClockFull) (refl, full.2)).1 x full.0
         by_cause x other (inr (inr memory)) = absurd (other memory.0)
 
   pub cancel_passed : {T S : Type 0} (e : BookError) → AnswersCancel {T = T} book client name (Err e)

@@ -5,7 +5,7 @@ use Rattle.std.proofs.lemmas.List.Elements.{All-contains, Contains-get_or, Conta
 use Rattle.ra_stamp.specs.declared.message.Message.{Message}
 use Rattle.ra_stamp.specs.Message.{to_of}
 use Rattle.ra_node.specs.Events.{Event, Happening}
-use Rattle.ra_node.specs.Events.Event.{Ask as AskedFor, Leave as GivenBack, Cancel as GivenUp, Receive as Received, Forget as Forgot}
+use Rattle.ra_node.specs.Events.{Event as acts}
 use Rattle.ra_world.specs.declared.step.Step.{Step}
 use Rattle.ra_world.specs.declared.step.Step.TheVariants.{Ask, Leave, Cancel, Deliver, Lose, Repeat, Forget}
 use Rattle.ra_world.specs.Traffic.{Move, sent_by}
@@ -22,11 +22,11 @@ one_at_most i step = at step
     by_test false e = inl refl
 
     at : (s : Step) → (events_at i s ≡ []) ⊎ ((event : Event) × (events_at i s ≡ event ∷ []))
-    at (Ask node client name mode) = by_test (eqb node i) (AskedFor client name mode)
-    at (Leave node client name) = by_test (eqb node i) (GivenBack client name)
-    at (Cancel node client name) = by_test (eqb node i) (GivenUp client name)
-    at (Forget node) = by_test (eqb node i) Forgot
-    at (Deliver message) = by_test (eqb (to_of message) i) (Received message)
+    at (Ask node client name mode) = by_test (eqb node i) (acts.Ask client name mode)
+    at (Leave node client name) = by_test (eqb node i) (acts.Leave client name)
+    at (Cancel node client name) = by_test (eqb node i) (acts.Cancel client name)
+    at (Forget node) = by_test (eqb node i) acts.Forget
+    at (Deliver message) = by_test (eqb (to_of message) i) (acts.Receive message)
     at (Lose message) = inl refl
     at (Repeat message) = inl refl
 

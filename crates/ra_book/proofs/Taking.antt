@@ -4,7 +4,7 @@ use Rattle.std.specs.Prelude.{option_map, slice_get}
 use Rattle.std.proofs.lemmas.Bool.{leb-true, leb-false, cases_lt}
 use Rattle.std.proofs.lemmas.Option.{same_Some, none-some}
 use Rattle.ra_book.specs.declared.book.event.BookKind.{BookKind}
-use Rattle.ra_book.specs.declared.book.event.BookKind.TheVariants.{Asked, Gave, Cancelled, Got, Forgot}
+use Rattle.ra_book.specs.declared.book.event.BookKind.TheVariants.{Ask, Leave, Cancel, Receive, Forget}
 use Rattle.ra_book.specs.declared.book.event.BookEvent.{BookEvent}
 use Rattle.ra_book.specs.declared.settle_books.event_merge.Head.{Head}
 use Rattle.ra_book.specs.declared.settle_books.event_merge.Turn.{Turn}
@@ -15,11 +15,11 @@ use Rattle.ra_book.specs.EventMerge.{IsNextOfBook, IsNotAfter, IsEarliest, IsHea
 -- ---- The clocks of one book
 
 later_clock : (clock : ℕ) (kind : BookKind) → clock < clock_after clock kind
-later_clock clock (Asked client name mode) = omega arith
-later_clock clock (Gave client name) = omega arith
-later_clock clock (Cancelled client name) = omega arith
-later_clock clock Forgot = omega arith
-later_clock clock (Got frame) = omega arith
+later_clock clock (Ask client name mode) = omega arith
+later_clock clock (Leave client name) = omega arith
+later_clock clock (Cancel client name) = omega arith
+later_clock clock Forget = omega arith
+later_clock clock (Receive frame) = omega arith
 
 pub clocks_rise : (clock : ℕ) (events : List BookEvent) (i : ℕ) (a b : BookEvent) → AreClocked clock events → slice_get events i ≡ Some a → slice_get events (suc i) ≡ Some b → a.clock < b.clock
 clocks_rise clock [] i a b clocked at next = absurd (none-some a at)

@@ -10,7 +10,7 @@ use Rattle.ra_node.specs.Events.{Event, Happening, IsForThisNode, NodeEvent, Nod
 use Rattle.ra_node.proofs.Chains.{history_same_node}
 use Rattle.ra_book.specs.declared.book.event.BookEvent.{BookEvent}
 use Rattle.ra_book.specs.declared.book.event.BookKind.{BookKind}
-use Rattle.ra_book.specs.declared.book.event.BookKind.TheVariants.{Asked, Gave, Cancelled, Got, Forgot}
+use Rattle.ra_book.specs.declared.book.event.BookKind.TheVariants.{Ask, Leave, Cancel, Receive, Forget}
 use Rattle.ra_book.specs.declared.book.sent.Sent.{Sent}
 use Rattle.ra_book.specs.History.{AreClocked, IsHistory, Posting, clock_from, clock_of, frames_of, happening_of, node_event}
 use Rattle.ra_book.specs.Book.{as_sent}
@@ -24,11 +24,11 @@ same_node old new event sends marks h = history_same_node (record { event = even
 
 -- an event for a node is one for each state of it
 for_it : (a b : NodeState) (kind : BookKind) → a.me ≡ b.me → a.nodes ≡ b.nodes → IsForThisNode a (node_event kind) → IsForThisNode b (node_event kind)
-for_it a b (Asked client name mode) me nodes h = tt
-for_it a b (Gave client name) me nodes h = tt
-for_it a b (Cancelled client name) me nodes h = tt
-for_it a b Forgot me nodes h = tt
-for_it a b (Got frame) me nodes h =
+for_it a b (Ask client name mode) me nodes h = tt
+for_it a b (Leave client name) me nodes h = tt
+for_it a b (Cancel client name) me nodes h = tt
+for_it a b Forget me nodes h = tt
+for_it a b (Receive frame) me nodes h =
     subst (λ (k : ℕ). IsForNode k b.nodes frame.message) me (subst (λ (k : ℕ). IsForNode a.me k frame.message) nodes h)
 
 abbrev events_in : List Posting → List BookEvent

@@ -27,7 +27,7 @@ use Rattle.ra_node.proofs.EventsKept.{event_sends, event_numbers}
 use Rattle.ra_book.specs.declared.error.BookError.{BookError}
 use Rattle.ra_book.specs.declared.error.BookError.TheVariants.{Memory}
 use Rattle.ra_book.specs.declared.book.event.BookKind.{BookKind}
-use Rattle.ra_book.specs.declared.book.event.BookKind.TheVariants.{Asked, Gave, Cancelled, Got, Forgot}
+use Rattle.ra_book.specs.declared.book.event.BookKind.TheVariants as kinds
 use Rattle.ra_book.specs.EventChecks.{MayTake, NodeRefuses}
 use Rattle.ra_book.specs.History.{node_event, clock_after}
 use Rattle.ra_book.specs.Refused.{refusal_of_ask, refusal_of_leave, refusal_of_cancel, refusal_of_receive}
@@ -42,45 +42,45 @@ Denies node kind why = NodeRefuses node kind why ⊎ ((why ≡ Memory) × MayTak
 asked : (node : NodeState) (client : ℕ) (name : List ℕ) (mode : Mode) (e : AskError)
     → IsErrOf {T = Outcome} (Err e) ask.Busy ↔ IsAskRefusal (resource_at node name) client ask.Busy
     → IsErrOf {T = Outcome} (Err e) ask.Exhausted ↔ IsAskRefusal (resource_at node name) client ask.Exhausted
-    → IsOkUnless {T = Outcome} (Err e) ask.Memory ↔ MayAsk (resource_at node name) client → Denies node (Asked client name mode) (refusal_of_ask e)
+    → IsOkUnless {T = Outcome} (Err e) ask.Memory ↔ MayAsk (resource_at node name) client → Denies node (kinds.Ask client name mode) (refusal_of_ask e)
 asked node client name mode ask.Busy busy exhausted allowed = inl (inl (refl, busy.0 refl))
 asked node client name mode ask.Exhausted busy exhausted allowed = let is = exhausted.0 refl in inl (inr (refl, is.0, is.1))
 asked node client name mode ask.Memory busy exhausted allowed = inr (refl, allowed.0 refl)
 
 left : (node new : NodeState) (client : ℕ) (name : List ℕ) (e : LeaveError) → AnswersLeave node client name (Err e) new
-    → Denies node (Gave client name) (refusal_of_leave e)
+    → Denies node (kinds.Leave client name) (refusal_of_leave e)
 left node new client name leave.NotHeld answers = inl (refl, answers.not_held.0 refl)
 left node new client name leave.Memory answers = inr (refl, answers.allowed.0 refl)
 
 cancelled : (node new : NodeState) (client : ℕ) (name : List ℕ) (e : CancelError) → AnswersCancel node client name (Err e) new
-    → Denies node (Cancelled client name) (refusal_of_cancel e)
+    → Denies node (kinds.Cancel client name) (refusal_of_cancel e)
 cancelled node new client name cancel.NotWaiting answers = inl (refl, answers.not_waiting.0 refl)
 cancelled node new client name cancel.Memory answers = inr (refl, answers.allowed.0 refl)
 
 received : (node : NodeState) (frame : Frame) (e : ReceiveError) → ChecksAddress {T = Outcome} node.me node.nodes frame.message (Err e)
-    → IsOkUnless {T = Outcome} (Err e) receive.Memory ↔ IsForNode node.me node.nodes frame.message → Denies node (Got frame) (refusal_of_receive e)
+    → IsOkUnless {T = Outcome} (Err e) receive.Memory ↔ IsForNode node.me node.nodes frame.message → Denies node (kinds.Receive frame) (refusal_of_receive e)
 received node frame receive.WrongNode address allowed = inl (inl (refl, address.wrong_node.0 refl))
 received node frame receive.Stranger address allowed = let is = address.stranger.0 refl in inl (inr (refl, is.0, is.1))
 received node frame receive.Memory address allowed = inr (refl, allowed.0 refl)
 
 -- the event is this one
 module _ (node : NodeState) (kind : BookKind) where
-  pub ask_denied : (client : ℕ) (name : List ℕ) (mode : Mode) → kind ≡ Asked client name mode → (e : AskError)
+  pub ask_denied : (client : ℕ) (name : List ℕ) (mode : Mode) → kind ≡ kinds.Ask client name mode → (e : AskError)
       → IsErrOf {T = Outcome} (Err e) ask.Busy ↔ IsAskRefusal (resource_at node name) client ask.Busy
       → IsErrOf {T = Outcome} (Err e) ask.Exhausted ↔ IsAskRefusal (resource_at node name) client ask.Exhausted
       → IsOkUnless {T = Outcome} (Err e) ask.Memory ↔ MayAsk (resource_at node name) client → Denies node kind (refusal_of_ask e)
   ask_denied client name mode is e busy exhausted allowed =
       subst (λ (k : BookKind). Denies node k (refusal_of_ask e)) (sym is) (asked node client name mode e busy exhausted allowed)
 
-  pub leave_denied : (new : NodeState) (client : ℕ) (name : List ℕ) → kind ≡ Gave client name → (e : LeaveError) → AnswersLeave node client name (Err e) new
+  pub leave_denied : (new : NodeState) (client : ℕ) (name : List ℕ) → kind ≡ kinds.Leave client name → (e : LeaveError) → AnswersLeave node client name (Err e) new
       → Denies node kind (refusal_of_leave e)
   leave_denied new client name is e answers = subst (λ (k : BookKind). Denies node k (refusal_of_leave e)) (sym is) (left node new client name e answers)
 
-  pub cancel_denied : (new : NodeState) (client : ℕ) (name : List ℕ) → kind ≡ Cancelled client name → (e : CancelError) → AnswersCancel node client name (Err e) new
+  pub cancel_denied : (new : NodeState) (client : ℕ) (name : List ℕ) → kind ≡ kinds.Cancel client name → (e : CancelError) → AnswersCancel node client name (Err e) new
       → Denies node kind (refusal_of_cancel e)
   cancel_denied new client name is e answers = subst (λ (k : BookKind). Denies node k (refusal_of_cancel e)) (sym is) (cancelled node new client name e answers)
 
-  pub receive_denied : (frame : Frame) → kind ≡ Got frame → (e : ReceiveError) → ChecksAddress {T = Outcome} node.me node.nodes frame.message (Err e)
+  pub receive_denied : (frame : Frame) → kind ≡ kinds.Receive frame → (e : ReceiveError) → ChecksAddress {T = Outcome} node.me node.nodes frame.message (Err e)
       → IsOkUnless {T = Outcome} (Err e) receive.Memory ↔ IsForNode node.me node.nodes frame.message → Denies node kind (refusal_of_receive e)
   receive_denied frame is e address allowed = subst (λ (k : BookKind). Denies node k (refusal_of_receive e)) (sym is) (received node frame e address allowed)
 
@@ -142,20 +142,20 @@ forgets_as old new sends marks none nothing event =
 
 -- a frame that comes has a number
 numbered_by : (kind : BookKind) (message : Message) → CanCome kind → node_event kind ≡ Receive message → 1 ≤ seq_of message
-numbered_by (Asked client name mode) message fits is = absurd (cc)
-numbered_by (Gave client name) message fits is = absurd (cc)
-numbered_by (Cancelled client name) message fits is = absurd (cc)
-numbered_by Forgot message fits is = absurd (cc)
-numbered_by (Got frame) message fits is =
+numbered_by (kinds.Ask client name mode) message fits is = absurd (cc)
+numbered_by (kinds.Leave client name) message fits is = absurd (cc)
+numbered_by (kinds.Cancel client name) message fits is = absurd (cc)
+numbered_by kinds.Forget message fits is = absurd (cc)
+numbered_by (kinds.Receive frame) message fits is =
     let same : frame.message ≡ message = cc in
     subst (λ (m : Message). 1 ≤ seq_of m) same fits.seq
 
 clock_rises : (clock : ℕ) (kind : BookKind) → 1 ≤ clock_after clock kind
-clock_rises clock (Asked client name mode) = omega arith
-clock_rises clock (Gave client name) = omega arith
-clock_rises clock (Cancelled client name) = omega arith
-clock_rises clock Forgot = omega arith
-clock_rises clock (Got frame) = omega arith
+clock_rises clock (kinds.Ask client name mode) = omega arith
+clock_rises clock (kinds.Leave client name) = omega arith
+clock_rises clock (kinds.Cancel client name) = omega arith
+clock_rises clock kinds.Forget = omega arith
+clock_rises clock (kinds.Receive frame) = omega arith
 
 -- what is sent fits
 fit : (old new : NodeState) (clock : ℕ) (kind : BookKind) (sends : List Message) (marks : List Mark)

@@ -10,28 +10,28 @@ use Rattle.ra_node.specs.Node.{NodeState, resource_at}
 use Rattle.ra_book.specs.declared.error.BookError.{BookError}
 use Rattle.ra_book.specs.declared.error.BookError.TheVariants.{Busy, Exhausted, NotHeld, NotWaiting, WrongNode, Stranger, ClockFull, Memory}
 use Rattle.ra_book.specs.declared.book.event.BookKind.{BookKind}
-use Rattle.ra_book.specs.declared.book.event.BookKind.TheVariants.{Asked, Gave, Cancelled, Got, Forgot}
+use Rattle.ra_book.specs.declared.book.event.BookKind.TheVariants.{Ask, Leave, Cancel, Receive, Forget}
 use Rattle.ra_book.specs.History.{clock_after}
 
 -- the node can take the event, were there a clock and memory
 abbrev pub MayTake : NodeState → BookKind → Type 0
-MayTake node (Asked client name mode) = MayAsk (resource_at node name) client
-MayTake node (Gave client name) = (entry : Entry) × Holds (resource_at node name) client entry
-MayTake node (Cancelled client name) = IsKeptWaiting (resource_at node name) client
-MayTake node (Got frame) = IsForNode node.me node.nodes frame.message
-MayTake node Forgot = Unit {0}
+MayTake node (Ask client name mode) = MayAsk (resource_at node name) client
+MayTake node (Leave client name) = (entry : Entry) × Holds (resource_at node name) client entry
+MayTake node (Cancel client name) = IsKeptWaiting (resource_at node name) client
+MayTake node (Receive frame) = IsForNode node.me node.nodes frame.message
+MayTake node Forget = Unit {0}
 
 -- why the node does not take the event, whatever its clock
 abbrev pub NodeRefuses : NodeState → BookKind → BookError → Type 0
-NodeRefuses node (Asked client name mode) why =
+NodeRefuses node (Ask client name mode) why =
     ((why ≡ Busy) × IsBusy (resource_at node name) client)
     ⊎ ((why ≡ Exhausted) × (IsBusy (resource_at node name) client → ⊥) × ((resource_at node name).state.highest ≡ greatest_number))
-NodeRefuses node (Gave client name) why = (why ≡ NotHeld) × ((entry : Entry) → Holds (resource_at node name) client entry → ⊥)
-NodeRefuses node (Cancelled client name) why = (why ≡ NotWaiting) × (IsKeptWaiting (resource_at node name) client → ⊥)
-NodeRefuses node (Got frame) why =
+NodeRefuses node (Leave client name) why = (why ≡ NotHeld) × ((entry : Entry) → Holds (resource_at node name) client entry → ⊥)
+NodeRefuses node (Cancel client name) why = (why ≡ NotWaiting) × (IsKeptWaiting (resource_at node name) client → ⊥)
+NodeRefuses node (Receive frame) why =
     ((why ≡ WrongNode) × (to_of frame.message ≢ node.me))
     ⊎ ((why ≡ Stranger) × (to_of frame.message ≡ node.me) × ((from_of frame.message ≡ node.me) ⊎ (node.nodes < from_of frame.message)))
-NodeRefuses node Forgot why = ⊥
+NodeRefuses node Forget why = ⊥
 
 -- the event can happen after this clock, and then has the next one
 pub record CanHappen (node : NodeState) (clock : ℕ) (kind : BookKind) (next : ℕ) : Type 0 where

@@ -7,28 +7,28 @@ use Rattle.ra_node.specs.Node.{NodeState, opening_node}
 use Rattle.ra_node.specs.Events.{Event, Happening, NodeEvents, AreForThisNode}
 use Rattle.ra_node.specs.Events.Event.{Ask, Leave, Cancel, Receive, Forget}
 use Rattle.ra_book.specs.declared.book.event.BookKind.{BookKind}
-use Rattle.ra_book.specs.declared.book.event.BookKind.TheVariants.{Asked, Gave, Cancelled, Got, Forgot}
+use Rattle.ra_book.specs.declared.book.event.BookKind.TheVariants as kinds
 use Rattle.ra_book.specs.declared.book.event.BookEvent.{BookEvent}
 use Rattle.ra_book.specs.declared.book.sent.Sent.{Sent}
 
 -- what happened, as an event of the node: of a frame only the message counts
 abbrev pub node_event : BookKind → Event
-node_event (Asked client name mode) = Ask client name mode
-node_event (Gave client name) = Leave client name
-node_event (Cancelled client name) = Cancel client name
-node_event (Got frame) = Receive frame.message
-node_event Forgot = Forget
+node_event (kinds.Ask client name mode) = Ask client name mode
+node_event (kinds.Leave client name) = Leave client name
+node_event (kinds.Cancel client name) = Cancel client name
+node_event (kinds.Receive frame) = Receive frame.message
+node_event kinds.Forget = Forget
 
 -- ---- The clock
 
 -- the clock of an event that comes after this clock: one more, and for a frame one more than the greater of this clock
 -- and the frame's
 abbrev pub clock_after : ℕ → BookKind → ℕ
-clock_after clock (Asked client name mode) = clock + 1
-clock_after clock (Gave client name) = clock + 1
-clock_after clock (Cancelled client name) = clock + 1
-clock_after clock (Got frame) = max clock frame.clock + 1
-clock_after clock Forgot = clock + 1
+clock_after clock (kinds.Ask client name mode) = clock + 1
+clock_after clock (kinds.Leave client name) = clock + 1
+clock_after clock (kinds.Cancel client name) = clock + 1
+clock_after clock (kinds.Receive frame) = max clock frame.clock + 1
+clock_after clock kinds.Forget = clock + 1
 
 -- after this clock each event has the clock that follows the one before it, and no clock is above 2^62
 abbrev pub AreClocked : ℕ → List BookEvent → Type 0

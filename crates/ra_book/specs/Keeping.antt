@@ -27,7 +27,7 @@ use Rattle.ra_book.specs.declared.error.MarkLostError.{MarkLostError}
 use Rattle.ra_book.specs.declared.error.MarkLostError.TheVariants.{NotSent, AlreadyLost}
 use Rattle.ra_book.specs.declared.book.event.BookEvent.{BookEvent}
 use Rattle.ra_book.specs.declared.book.event.BookKind.{BookKind}
-use Rattle.ra_book.specs.declared.book.event.BookKind.TheVariants.{Asked, Gave, Cancelled, Got, Forgot}
+use Rattle.ra_book.specs.declared.book.event.BookKind.TheVariants.{Ask, Leave, Cancel, Receive, Forget}
 use Rattle.ra_book.specs.declared.book.event_effect.Posted.{Posted}
 use Rattle.ra_book.specs.declared.book.sent.Sent.{Sent}
 use Rattle.ra_book.specs.History.{node_event, clock_after, frames_at}
@@ -63,11 +63,11 @@ pub record IsKept (b : Inside) : Type 0 where
 
 -- if a frame comes, it is for the book's node, and fits
 abbrev pub IsForThisBook : BookState → BookKind → Type 0
-IsForThisBook book (Asked client name mode) = Unit {0}
-IsForThisBook book (Gave client name) = Unit {0}
-IsForThisBook book (Cancelled client name) = Unit {0}
-IsForThisBook book (Got frame) = IsForNode book.me book.nodes frame.message × Fits frame
-IsForThisBook book Forgot = Unit {0}
+IsForThisBook book (Ask client name mode) = Unit {0}
+IsForThisBook book (Leave client name) = Unit {0}
+IsForThisBook book (Cancel client name) = Unit {0}
+IsForThisBook book (Receive frame) = IsForNode book.me book.nodes frame.message × Fits frame
+IsForThisBook book Forget = Unit {0}
 
 -- an event of this kind comes next at a book: a clock is left for it, and this is that clock
 pub record ComesNext (book : BookState) (clock : ℕ) (kind : BookKind) : Type 0 where
@@ -82,11 +82,11 @@ answers_to (Reply from to name seq) = 0
 
 -- how many messages a node sends at most when this happens, in a cluster of this many nodes
 abbrev pub sends_by : ℕ → BookKind → ℕ
-sends_by nodes (Asked client name mode) = nodes
-sends_by nodes (Gave client name) = 2 * nodes
-sends_by nodes (Cancelled client name) = 2 * nodes
-sends_by nodes (Got frame) = answers_to frame.message
-sends_by nodes Forgot = 0
+sends_by nodes (Ask client name mode) = nodes
+sends_by nodes (Leave client name) = 2 * nodes
+sends_by nodes (Cancel client name) = 2 * nodes
+sends_by nodes (Receive frame) = answers_to frame.message
+sends_by nodes Forget = 0
 
 -- the event happened at the node, follows the events so far, and its frames follow those so far
 pub record Happens (old new : NodeState) (events events' : List BookEvent) (sent sent' : List Sent) (event : BookEvent)
@@ -119,9 +119,9 @@ pub record AnswersAsk {T : Type 0} (book : BookState) (client : ℕ) (name : Lis
   pub exhausted : IsErrOf answer Exhausted
       ↔ Runs book (λ node. (IsBusy (resource_at node name) client → ⊥) × ((resource_at node name).state.highest ≡ greatest_number))
   pub clock_full : IsErrOf answer ClockFull
-      ↔ Runs book (λ node. MayAsk (resource_at node name) client × (HasClock book (Asked client name mode) → ⊥))
+      ↔ Runs book (λ node. MayAsk (resource_at node name) client × (HasClock book (Ask client name mode) → ⊥))
   pub allowed : IsOkUnless answer Memory
-      ↔ Runs book (λ node. MayAsk (resource_at node name) client × HasClock book (Asked client name mode))
+      ↔ Runs book (λ node. MayAsk (resource_at node name) client × HasClock book (Ask client name mode))
 
 -- an ask is refused for this cause, as `Book::ask` says, if memory may run out
 abbrev pub RefusesAsk : BookState → ℕ → List ℕ → Mode → BookError → Type 0
@@ -133,9 +133,9 @@ pub record AnswersLeave {T : Type 0} (book : BookState) (client : ℕ) (name : L
   pub not_held : IsErrOf answer NotHeld
       ↔ Runs book (λ node. (entry : Entry) → Holds (resource_at node name) client entry → ⊥)
   pub clock_full : IsErrOf answer ClockFull
-      ↔ Runs book (λ node. ((entry : Entry) × Holds (resource_at node name) client entry) × (HasClock book (Gave client name) → ⊥))
+      ↔ Runs book (λ node. ((entry : Entry) × Holds (resource_at node name) client entry) × (HasClock book (Leave client name) → ⊥))
   pub allowed : IsOkUnless answer Memory
-      ↔ Runs book (λ node. ((entry : Entry) × Holds (resource_at node name) client entry) × HasClock book (Gave client name))
+      ↔ Runs book (λ node. ((entry : Entry) × Holds (resource_at node name) client entry) × HasClock book (Leave client name))
 
 -- a leave is refused for this cause, as `Book::leave` says
 abbrev pub RefusesLeave : BookState → ℕ → List ℕ → BookError → Type 0
@@ -147,9 +147,9 @@ pub record AnswersCancel {T : Type 0} (book : BookState) (client : ℕ) (name : 
   pub not_waiting : IsErrOf answer NotWaiting
       ↔ Runs book (λ node. IsKeptWaiting (resource_at node name) client → ⊥)
   pub clock_full : IsErrOf answer ClockFull
-      ↔ Runs book (λ node. IsKeptWaiting (resource_at node name) client × (HasClock book (Cancelled client name) → ⊥))
+      ↔ Runs book (λ node. IsKeptWaiting (resource_at node name) client × (HasClock book (Cancel client name) → ⊥))
   pub allowed : IsOkUnless answer Memory
-      ↔ Runs book (λ node. IsKeptWaiting (resource_at node name) client × HasClock book (Cancelled client name))
+      ↔ Runs book (λ node. IsKeptWaiting (resource_at node name) client × HasClock book (Cancel client name))
 
 -- a cancel is refused for this cause, as `Book::cancel` says
 abbrev pub RefusesCancel : BookState → ℕ → List ℕ → BookError → Type 0
@@ -163,9 +163,9 @@ pub record AnswersReceive {T : Type 0} (book : BookState) (bytes : List ℕ) (an
   pub stranger : IsErrOf answer Stranger
       ↔ ReadsFrame book bytes (λ f. (to_of f.message ≡ book.me) × ((from_of f.message ≡ book.me) ⊎ (book.nodes < from_of f.message)))
   pub clock_full : IsErrOf answer ClockFull
-      ↔ ReadsFrame book bytes (λ f. IsForNode book.me book.nodes f.message × (HasClock book (Got f) → ⊥))
+      ↔ ReadsFrame book bytes (λ f. IsForNode book.me book.nodes f.message × (HasClock book (Receive f) → ⊥))
   pub allowed : IsOkUnless answer Memory
-      ↔ ReadsFrame book bytes (λ f. IsForNode book.me book.nodes f.message × HasClock book (Got f))
+      ↔ ReadsFrame book bytes (λ f. IsForNode book.me book.nodes f.message × HasClock book (Receive f))
 
 -- bytes that come are refused for this cause, as `Book::receive` says
 abbrev pub RefusesReceive : BookState → List ℕ → BookError → Type 0
@@ -190,7 +190,7 @@ NotAccepted me nodes clock bytes (error.Frame fault) = first_fault bytes ≡ Som
 NotAccepted me nodes clock bytes WrongNode = (f : Frame) × IsFrameText bytes f × (to_of f.message ≢ me)
 NotAccepted me nodes clock bytes Stranger =
     (f : Frame) × IsFrameText bytes f × (to_of f.message ≡ me) × ((from_of f.message ≡ me) ⊎ (nodes < from_of f.message))
-NotAccepted me nodes clock bytes ClockFull = (f : Frame) × IsFrameFor me nodes bytes f × (2 ^ 62 < clock_after clock (Got f))
+NotAccepted me nodes clock bytes ClockFull = (f : Frame) × IsFrameFor me nodes bytes f × (2 ^ 62 < clock_after clock (Receive f))
 NotAccepted me nodes clock bytes Failed = ⊥
 NotAccepted me nodes clock bytes Busy = ⊥
 NotAccepted me nodes clock bytes Exhausted = ⊥
@@ -201,7 +201,7 @@ NotAccepted me nodes clock bytes Memory = ⊥
 -- bytes are accepted at this one of this many nodes, after this clock, as a frame for it with the clock after it; or they
 -- are not accepted
 pub record IsAccepted (me nodes clock : ℕ) (bytes : List ℕ) (answer : Result (Frame × ℕ) BookError) : Type 0 where
-  pub accepted : IfOk answer (λ h. IsFrameFor me nodes bytes h.0 × (h.1 ≡ clock_after clock (Got h.0)) × (h.1 ≤ 2 ^ 62))
+  pub accepted : IfOk answer (λ h. IsFrameFor me nodes bytes h.0 × (h.1 ≡ clock_after clock (Receive h.0)) × (h.1 ≤ 2 ^ 62))
   pub refused : IfErr answer (NotAccepted me nodes clock bytes)
   pub one_text : (a b : Frame) → IsFrameText bytes a → IsFrameText bytes b → a ≡ b
   pub no_fault : (f : Frame) (fault : FrameError) → IsFrameText bytes f → first_fault bytes ≡ Some fault → ⊥
@@ -243,7 +243,7 @@ pub record KeptHistoriesGoOn : Type 0 where
       → length sends ≤ sends_by book.nodes kind
   pub fit : (book : BookState) (old new : NodeState) (kind : BookKind) (sends : List Message) (marks : List Mark)
       → Keeps book old → IsForThisNode old (node_event kind) → NodeEvent old (node_event kind) sends marks new → HasClock book kind
-      → ((frame : Frame) → kind ≡ Got frame → Fits frame) → All Fits (frames_at (next_clock book kind) sends)
+      → ((frame : Frame) → kind ≡ Receive frame → Fits frame) → All Fits (frames_at (next_clock book kind) sends)
   pub node : (book : BookState) (node : NodeState) → Keeps book node
       → (node.me ≡ book.me) × (node.nodes ≡ book.nodes) × IsConsistentNode node
   pub determined : (book : BookState) (a b : NodeState) → Keeps book a → LeadsTo book b → b ≡ a

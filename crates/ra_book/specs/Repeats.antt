@@ -7,7 +7,7 @@ use Rattle.ra_world.specs.declared.step.Step.TheVariants.{Repeat}
 use Rattle.ra_world.specs.Traffic.{Move, lost_by}
 use Rattle.ra_world.specs.Run.{IsRun, happened_at}
 use Rattle.ra_book.specs.declared.book.event.BookKind.{BookKind}
-use Rattle.ra_book.specs.declared.book.event.BookKind.TheVariants.{Got}
+use Rattle.ra_book.specs.declared.book.event.BookKind.TheVariants.{Receive}
 use Rattle.ra_book.specs.History.{node_event}
 use Rattle.ra_book.specs.Book.{BookState}
 use Rattle.ra_book.specs.Settled.{IsSettledOrder, Placed, frames_in, start_of, step_at}
@@ -25,7 +25,7 @@ ComesBy placed frame = Contains (frames_by placed) frame
 abbrev pub AreCopiesBefore : (kind : BookKind) (later : List Placed) (copies : List Step) → Type 0
 AreCopiesBefore kind later copies =
     (All (λ frame. ComesBy later frame → ⊥) (frames_in kind) × (copies ≡ []))
-    ⊎ ((frame : Frame) × (kind ≡ Got frame) × ComesBy later frame × (copies ≡ Repeat frame.message ∷ []))
+    ⊎ ((frame : Frame) × (kind ≡ Receive frame) × ComesBy later frame × (copies ≡ Repeat frame.message ∷ []))
 
 -- the steps of these events in order, with their copies before each
 abbrev pub AreWithCopies : (placed : List Placed) (steps : List Step) → Type 0

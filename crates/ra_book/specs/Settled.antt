@@ -14,7 +14,7 @@ use Rattle.ra_world.specs.declared.step.Step.TheVariants.{Ask, Leave, Cancel, De
 use Rattle.ra_world.specs.Traffic.{Move, lost_by, repeated_by}
 use Rattle.ra_world.specs.Run.{IsRun, happened_at}
 use Rattle.ra_book.specs.declared.book.event.BookKind.{BookKind}
-use Rattle.ra_book.specs.declared.book.event.BookKind.TheVariants.{Asked, Gave, Cancelled, Got, Forgot}
+use Rattle.ra_book.specs.declared.book.event.BookKind.TheVariants as kinds
 use Rattle.ra_book.specs.declared.book.event.BookEvent.{BookEvent}
 use Rattle.ra_book.specs.declared.book.sent.Sent.{Sent}
 use Rattle.ra_book.specs.History.{Posting, node_event}
@@ -62,11 +62,11 @@ pub record IsSettledOrder (books : List BookState) (placed : List Placed) : Type
 
 -- the step of the cluster that an event of a node is
 abbrev pub step_at : ℕ → BookKind → Step
-step_at node (Asked client name mode) = Ask node client name mode
-step_at node (Gave client name) = Leave node client name
-step_at node (Cancelled client name) = Cancel node client name
-step_at node (Got frame) = Deliver frame.message
-step_at node Forgot = Forget node
+step_at node (kinds.Ask client name mode) = Ask node client name mode
+step_at node (kinds.Leave client name) = Leave node client name
+step_at node (kinds.Cancel client name) = Cancel node client name
+step_at node (kinds.Receive frame) = Deliver frame.message
+step_at node kinds.Forget = Forget node
 
 -- the steps of the cluster that these events are, in order
 abbrev pub steps_of : List Placed → List Step
@@ -120,11 +120,11 @@ pub record Repeats {X : Type 0} (xs : List X) : Type 0 where
 
 -- the frame that came, if one did
 abbrev pub frames_in : BookKind → List Frame
-frames_in (Asked client name mode) = []
-frames_in (Gave client name) = []
-frames_in (Cancelled client name) = []
-frames_in (Got frame) = frame ∷ []
-frames_in Forgot = []
+frames_in (kinds.Ask client name mode) = []
+frames_in (kinds.Leave client name) = []
+frames_in (kinds.Cancel client name) = []
+frames_in (kinds.Receive frame) = frame ∷ []
+frames_in kinds.Forget = []
 
 -- the frames that came in these events, in order
 abbrev pub received_among : List BookEvent → List Frame

@@ -8,7 +8,7 @@ use Rattle.ra_node.specs.Node.{NodeState, opening_node, IsConsistentNode}
 use Rattle.ra_node.specs.Events.{NodeEvent, IsForThisNode}
 use Rattle.ra_book.specs.History.{Posting, node_event, clock_after}
 use Rattle.ra_book.specs.declared.book.event.BookKind.{BookKind}
-use Rattle.ra_book.specs.declared.book.event.BookKind.TheVariants.{Asked, Gave, Cancelled, Got, Forgot}
+use Rattle.ra_book.specs.declared.book.event.BookKind.TheVariants.{Ask, Leave, Cancel, Receive, Forget}
 use Rattle.ra_book.specs.declared.error.BookError.{BookError}
 use Rattle.ra_book.specs.EventChecks.{IsRefusedAfter}
 use Rattle.ra_book.specs.declared.timed_node.TimedNode.TheInside.{Inside}
@@ -49,11 +49,11 @@ TakesEach old (p ∷ postings) new =
 
 -- a frame that comes fits, as each frame does that is read
 abbrev pub CanCome : BookKind → Type 0
-CanCome (Asked client name mode) = Unit {0}
-CanCome (Gave client name) = Unit {0}
-CanCome (Cancelled client name) = Unit {0}
-CanCome (Got frame) = Fits frame
-CanCome Forgot = Unit {0}
+CanCome (Ask client name mode) = Unit {0}
+CanCome (Leave client name) = Unit {0}
+CanCome (Cancel client name) = Unit {0}
+CanCome (Receive frame) = Fits frame
+CanCome Forget = Unit {0}
 
 -- the messages fit into frames with this clock
 abbrev pub FitAt : ℕ → List Message → Type 0

@@ -156,7 +156,7 @@ impl Book {
         name: Name,
         mode: Mode,
     ) -> Result<Posted, BookError>
-        ensures ok { IfOk result (λ posted. Adds self.old (BookKind.Asked client name mode)
+        ensures ok { IfOk result (λ posted. Adds self.old (BookKind.Ask client name mode)
             posted.frames.items posted.marks.items self.new) }
         ensures history { HasHistory self.new }
         ensures fits { IfOk result (λ posted. All Fits posted.frames.items) }
@@ -168,14 +168,14 @@ impl Book {
             × ((resource_at node name).state.highest ≡ greatest_number)) }
         ensures clock_full { IsErrOf result BookError.ClockFull
             ↔ Runs self.old (λ node. MayAsk (resource_at node name) client
-            × (HasClock self.old (BookKind.Asked client name mode) → ⊥)) }
+            × (HasClock self.old (BookKind.Ask client name mode) → ⊥)) }
         // Memory is the one other error.
         ensures allowed { IsOkUnless result BookError.Memory
             ↔ Runs self.old (λ node. MayAsk (resource_at node name) client
-            × HasClock self.old (BookKind.Asked client name mode)) }
+            × HasClock self.old (BookKind.Ask client name mode)) }
         ensures err { OnErr result (self.new ≡ self.old) }
     {
-        let kind = BookKind::Asked { client, name, mode };
+        let kind = BookKind::Ask { client, name, mode };
         let Some(clock) = self.next_clock(&kind) else {
             return Err(self.ask_refusal(client, name, mode));
         };
@@ -207,7 +207,7 @@ impl Book {
     /// 2. `NotHeld`: the client does not hold the name here.
     /// 3. `ClockFull`: the clock would pass 2^62.
     pub fn leave(&mut self, alloc: Global, client: u32, name: Name) -> Result<Posted, BookError>
-        ensures ok { IfOk result (λ posted. Adds self.old (BookKind.Gave client name)
+        ensures ok { IfOk result (λ posted. Adds self.old (BookKind.Leave client name)
             posted.frames.items posted.marks.items self.new) }
         ensures history { HasHistory self.new }
         ensures fits { IfOk result (λ posted. All Fits posted.frames.items) }
@@ -216,12 +216,12 @@ impl Book {
             ↔ Runs self.old (λ node. (entry : Entry) → Holds (resource_at node name) client entry → ⊥) }
         ensures clock_full { IsErrOf result BookError.ClockFull
             ↔ Runs self.old (λ node. ((entry : Entry) × Holds (resource_at node name) client entry)
-            × (HasClock self.old (BookKind.Gave client name) → ⊥)) }
+            × (HasClock self.old (BookKind.Leave client name) → ⊥)) }
         // Memory is the one other error, and does not come.
         ensures no_memory { IsErrOf result BookError.Memory → ⊥ }
         ensures allowed { IsOkUnless result BookError.Memory
             ↔ Runs self.old (λ node. ((entry : Entry) × Holds (resource_at node name) client entry)
-            × HasClock self.old (BookKind.Gave client name)) }
+            × HasClock self.old (BookKind.Leave client name)) }
         ensures err { OnErr result (self.new ≡ self.old) }
     {
         let clock = self.check_leave(client, name)?;
@@ -238,7 +238,7 @@ impl Book {
             self.departures.push_reserved(Departure { outcome, frames });
             return Err(BookError::NotHeld);
         };
-        let kind = BookKind::Gave { client, name };
+        let kind = BookKind::Leave { client, name };
         let event = BookEvent { clock, kind };
         Ok(keep(&mut self.events, &mut self.sent, frames, event, outcome))
     }
@@ -255,7 +255,7 @@ impl Book {
     /// 2. `NotWaiting`: the client neither waits nor is queued for the name here.
     /// 3. `ClockFull`: the clock would pass 2^62.
     pub fn cancel(&mut self, alloc: Global, client: u32, name: Name) -> Result<Posted, BookError>
-        ensures ok { IfOk result (λ posted. Adds self.old (BookKind.Cancelled client name)
+        ensures ok { IfOk result (λ posted. Adds self.old (BookKind.Cancel client name)
             posted.frames.items posted.marks.items self.new) }
         ensures history { HasHistory self.new }
         ensures fits { IfOk result (λ posted. All Fits posted.frames.items) }
@@ -264,12 +264,12 @@ impl Book {
             ↔ Runs self.old (λ node. IsKeptWaiting (resource_at node name) client → ⊥) }
         ensures clock_full { IsErrOf result BookError.ClockFull
             ↔ Runs self.old (λ node. IsKeptWaiting (resource_at node name) client
-            × (HasClock self.old (BookKind.Cancelled client name) → ⊥)) }
+            × (HasClock self.old (BookKind.Cancel client name) → ⊥)) }
         // Memory is the one other error, and does not come.
         ensures no_memory { IsErrOf result BookError.Memory → ⊥ }
         ensures allowed { IsOkUnless result BookError.Memory
             ↔ Runs self.old (λ node. IsKeptWaiting (resource_at node name) client
-            × HasClock self.old (BookKind.Cancelled client name)) }
+            × HasClock self.old (BookKind.Cancel client name)) }
         ensures err { OnErr result (self.new ≡ self.old) }
     {
         let clock = self.check_cancel(client, name)?;
@@ -287,7 +287,7 @@ impl Book {
             self.departures.push_reserved(unused);
             return Err(BookError::NotWaiting);
         };
-        let kind = BookKind::Cancelled { client, name };
+        let kind = BookKind::Cancel { client, name };
         let event = BookEvent { clock, kind };
         Ok(keep(&mut self.events, &mut self.sent, frames, event, outcome))
     }
@@ -303,20 +303,20 @@ impl Book {
     /// 2. `ClockFull`: the clock would pass 2^62.
     /// 3. `Memory`: nothing has changed, and the call can be made again.
     pub fn forget(&mut self, alloc: Global) -> Result<(), BookError>
-        ensures ok { OnOk result (Adds self.old BookKind.Forgot [] [] self.new) }
+        ensures ok { OnOk result (Adds self.old BookKind.Forget [] [] self.new) }
         ensures history { HasHistory self.new }
         ensures failed { IsErrOf result BookError.Failed ↔ IsSome self.old.fault }
         ensures clock_full { IsErrOf result BookError.ClockFull
-            ↔ ((self.old.fault ≡ None) × (HasClock self.old BookKind.Forgot → ⊥)) }
+            ↔ ((self.old.fault ≡ None) × (HasClock self.old BookKind.Forget → ⊥)) }
         // Memory is the one other error.
         ensures allowed { IsOkUnless result BookError.Memory
-            ↔ ((self.old.fault ≡ None) × HasClock self.old BookKind.Forgot) }
+            ↔ ((self.old.fault ≡ None) × HasClock self.old BookKind.Forget) }
         ensures err { OnErr result (self.new ≡ self.old) }
     {
         if self.fault.is_some() {
             return Err(BookError::Failed);
         }
-        let kind = BookKind::Forgot;
+        let kind = BookKind::Forget;
         let clock = clock_after(self.clock(), &kind)?;
         let leaves = self.departures.len();
         let Ok(()) = self.events.reserve(leaves as u64 + 1) else {
@@ -342,7 +342,7 @@ impl Book {
     /// 6. `Memory`: nothing has changed, and the call can be made again.
     pub fn receive(&mut self, alloc: Global, bytes: &[u8]) -> Result<Posted, BookError>
         ensures ok { IfOk result (λ posted. (frame : Frame) × IsFrameText bytes.now frame
-            × Adds self.old (BookKind.Got frame) posted.frames.items posted.marks.items self.new) }
+            × Adds self.old (BookKind.Receive frame) posted.frames.items posted.marks.items self.new) }
         ensures history { HasHistory self.new }
         ensures fits { IfOk result (λ posted. All Fits posted.frames.items) }
         ensures failed { IsErrOf result BookError.Failed ↔ IsSome self.old.fault }
@@ -355,11 +355,11 @@ impl Book {
             × ((from_of frame.message ≡ self.old.me) ⊎ (self.old.nodes < from_of frame.message))) }
         ensures clock_full { IsErrOf result BookError.ClockFull
             ↔ ReadsFrame self.old bytes.now (λ frame. IsForNode self.old.me self.old.nodes frame.message
-            × (HasClock self.old (BookKind.Got frame) → ⊥)) }
+            × (HasClock self.old (BookKind.Receive frame) → ⊥)) }
         // Memory is the one other error.
         ensures allowed { IsOkUnless result BookError.Memory
             ↔ ReadsFrame self.old bytes.now (λ frame. IsForNode self.old.me self.old.nodes frame.message
-            × HasClock self.old (BookKind.Got frame)) }
+            × HasClock self.old (BookKind.Receive frame)) }
         ensures err { OnErr result (self.new ≡ self.old) }
     {
         let (frame, clock) = self.check_receive(bytes)?;
@@ -378,7 +378,7 @@ impl Book {
             return Err(room_refusal(&self.node, &frame));
         };
         let outcome = self.node.receive(alloc, &frame.message)?;
-        let kind = BookKind::Got(frame);
+        let kind = BookKind::Receive(frame);
         let event = BookEvent { clock, kind };
         Ok(keep(&mut self.events, &mut self.sent, frames, event, outcome))
     }
@@ -567,7 +567,7 @@ impl Book {
         if self.fault.is_some() {
             return BookError::Failed;
         }
-        let kind = BookKind::Asked { client, name, mode };
+        let kind = BookKind::Ask { client, name, mode };
         event_refusal(&self.node, self.clock(), &kind)
     }
 
@@ -578,13 +578,13 @@ impl Book {
     ///
     /// Those of `leave`, except for `Memory`. `NotHeld` comes only if no clock is left.
     fn check_leave(&self, client: u32, name: Name) -> Result<u64, BookError>
-        ensures checked { IsChecked self.now (HasNextClock self.now (BookKind.Gave client name)) result }
+        ensures checked { IsChecked self.now (HasNextClock self.now (BookKind.Leave client name)) result }
         ensures refused { IfErr result (RefusesLeave self.now client name) }
     {
         if self.fault.is_some() {
             return Err(BookError::Failed);
         }
-        let kind = BookKind::Gave { client, name };
+        let kind = BookKind::Leave { client, name };
         let latest = self.clock();
         match clock_after(latest, &kind) {
             Ok(clock) => Ok(clock),
@@ -599,13 +599,13 @@ impl Book {
     ///
     /// Those of `cancel`, except for `Memory`. `NotWaiting` comes only if no clock is left.
     fn check_cancel(&self, client: u32, name: Name) -> Result<u64, BookError>
-        ensures checked { IsChecked self.now (HasNextClock self.now (BookKind.Cancelled client name)) result }
+        ensures checked { IsChecked self.now (HasNextClock self.now (BookKind.Cancel client name)) result }
         ensures refused { IfErr result (RefusesCancel self.now client name) }
     {
         if self.fault.is_some() {
             return Err(BookError::Failed);
         }
-        let kind = BookKind::Cancelled { client, name };
+        let kind = BookKind::Cancel { client, name };
         let latest = self.clock();
         let Ok(clock) = clock_after(latest, &kind) else {
             return check_event(&self.node, latest, &kind);
@@ -621,7 +621,7 @@ impl Book {
     /// Those of `receive`, except for `Memory`. `WrongNode` and `Stranger` come only if no clock is left.
     fn check_receive(&self, bytes: &[u8]) -> Result<(Frame, u64), BookError>
         ensures checked { IsChecked self.now
-            (λ came. IsRead bytes.now came.0 × HasNextClock self.now (BookKind.Got came.0) came.1) result }
+            (λ came. IsRead bytes.now came.0 × HasNextClock self.now (BookKind.Receive came.0) came.1) result }
         ensures refused { IfErr result (RefusesReceive self.now bytes.now) }
     {
         if self.fault.is_some() {
@@ -634,7 +634,7 @@ impl Book {
         // The event's frame is copied through a borrow, since the proof of a copy of the variable is not told of the
         // type of its message.
         let came = &frame;
-        let kind = BookKind::Got(*came);
+        let kind = BookKind::Receive(*came);
         let latest = self.clock();
         let Ok(clock) = clock_after(latest, &kind) else {
             return Err(event_refusal(&self.node, latest, &kind));

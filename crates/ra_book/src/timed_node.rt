@@ -72,11 +72,11 @@ impl TimedNode {
             return Err(event_refusal(&self.node, self.clock, kind));
         };
         let outcome = match kind {
-            BookKind::Asked { client, name, mode } => self.node.ask(alloc, *client, *name, *mode)?,
-            BookKind::Gave { client, name } => self.node.leave(alloc, *client, *name)?,
-            BookKind::Cancelled { client, name } => self.node.cancel(alloc, *client, *name)?,
-            BookKind::Got(frame) => self.node.receive(alloc, &frame.message)?,
-            BookKind::Forgot => {
+            BookKind::Ask { client, name, mode } => self.node.ask(alloc, *client, *name, *mode)?,
+            BookKind::Leave { client, name } => self.node.leave(alloc, *client, *name)?,
+            BookKind::Cancel { client, name } => self.node.cancel(alloc, *client, *name)?,
+            BookKind::Receive(frame) => self.node.receive(alloc, &frame.message)?,
+            BookKind::Forget => {
                 self.node.forget();
                 Outcome {
                     sends: Messages::new(alloc),

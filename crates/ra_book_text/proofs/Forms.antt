@@ -15,19 +15,19 @@ use Rattle.ra_trace.specs.TraceText.{IsClientNumber}
 use Rattle.ra_trace.proofs.Cuts.{mapped, rest_after-append}
 use Rattle.ra_trace.proofs.Spelled.{Reads, reads_fields, reads_node, reads_client, reads_start, reads_name, reads_mode}
 use Rattle.ra_book.specs.declared.book.event.BookKind.{BookKind}
-use Rattle.ra_book.specs.declared.book.event.BookKind.TheVariants.{Asked, Gave, Cancelled}
+use Rattle.ra_book.specs.declared.book.event.BookKind.TheVariants as kinds
 use Rattle.ra_book_text.specs.BookText.{Form, HasForm, form_text, version_text, first_text, IsFirst, IsNoFirst, IsNoLater, IsEvent}
-use Rattle.ra_book_text.specs.BookText.Form.{Ask, Release, Cancel, Forget, Receive}
+use Rattle.ra_book_text.specs.BookText.Form.{Ask, Leave, Cancel, Forget, Receive}
 use Rattle.ra_book_text.specs.declared.next_line.book_version.BookVersion.{BookVersion}
 use Rattle.ra_book_text.specs.declared.next_line.book_version.BookVersion.TheVariants.{One, Two}
-use Rattle.ra_book_text.specs.Fields.{ask_of, release_of, cancel_of, first_of}
+use Rattle.ra_book_text.specs.Fields.{ask_of, leave_of, cancel_of, first_of}
 
 -- how the fields after the first words are written
 abbrev ask_tail : ℕ × (List ℕ × Mode) → List ℕ
 ask_tail f = decimal f.0 ++ 32 ∷ (f.1.0 ++ 32 ∷ mode_word f.1.1)
 
-abbrev release_tail : ℕ × List ℕ → List ℕ
-release_tail f = decimal f.0 ++ 32 ∷ f.1
+abbrev client_tail : ℕ × List ℕ → List ℕ
+client_tail f = decimal f.0 ++ 32 ∷ f.1
 
 abbrev first_tail : ℕ × (ℕ × ℕ) → List ℕ
 first_tail f = decimal f.0 ++ 32 ∷ (decimal f.1.0 ++ 32 ∷ decimal f.1.1)
@@ -35,8 +35,8 @@ first_tail f = decimal f.0 ++ 32 ∷ (decimal f.1.0 ++ 32 ∷ decimal f.1.1)
 reads_ask : Reads (fields client_of (fields name_of mode_of)) (λ f. IsClientNumber f.0 × (IsName f.1.0 × Unit {0})) ask_tail
 reads_ask = reads_fields _ _ _ _ _ _ reads_client (reads_fields _ _ _ _ _ _ reads_name reads_mode.reads)
 
-reads_release : Reads (fields client_of name_of) (λ f. IsClientNumber f.0 × IsName f.1) release_tail
-reads_release = reads_fields _ _ _ _ _ _ reads_client reads_name.reads
+reads_client_and_name : Reads (fields client_of name_of) (λ f. IsClientNumber f.0 × IsName f.1) client_tail
+reads_client_and_name = reads_fields _ _ _ _ _ _ reads_client reads_name.reads
 
 reads_first : Reads (fields node_of (fields node_of start_of)) (λ f. IsNodeNumber f.0 × (IsNodeNumber f.1.0 × (f.1.1 < 2 ^ 64))) first_tail
 reads_first = reads_fields _ _ _ _ _ _ reads_node (reads_fields _ _ _ _ _ _ reads_node reads_start.reads)
@@ -44,10 +44,10 @@ reads_first = reads_fields _ _ _ _ _ _ reads_node (reads_fields _ _ _ _ _ _ read
 ask_text : (client : ℕ) (name : List ℕ) (mode : Mode) → codes "ask " ++ ask_tail (client, (name, mode)) ≡ form_text (Ask client name mode)
 ask_text client name mode = sym (simp append_assoc)
 
-release_text : (client : ℕ) (name : List ℕ) → codes "release " ++ release_tail (client, name) ≡ form_text (Release client name)
-release_text client name = sym (simp append_assoc)
+leave_text : (client : ℕ) (name : List ℕ) → codes "release " ++ client_tail (client, name) ≡ form_text (Leave client name)
+leave_text client name = sym (simp append_assoc)
 
-cancel_text : (client : ℕ) (name : List ℕ) → codes "cancel " ++ release_tail (client, name) ≡ form_text (Cancel client name)
+cancel_text : (client : ℕ) (name : List ℕ) → codes "cancel " ++ client_tail (client, name) ≡ form_text (Cancel client name)
 cancel_text client name = sym (simp append_assoc)
 
 pub book_text : (version : BookVersion) (node nodes start : ℕ) → version_text version ++ 32 ∷ first_tail (node, (nodes, start)) ≡ first_text version node nodes start
@@ -79,74 +79,74 @@ no_ask line rest is none (Ask client name mode) h =
     let tail : rest ≡ ask_tail (client, (name, mode)) = after (codes "ask ") rest (ask_tail (client, (name, mode))) line (sym is) (ask_text client name mode ∙ sym h.2) in
     no_some (fields client_of (fields name_of mode_of) rest) (client, (name, mode)) none
     (ap (fields client_of (fields name_of mode_of)) tail ∙ reads_ask.each (client, (name, mode)) (h.1.0, (h.1.1, tt)))
-no_ask line rest is none (Release client name) h = clash (codes "ask ") rest (form_text (Release client name)) (sym is ∙ h.2) refl
+no_ask line rest is none (Leave client name) h = clash (codes "ask ") rest (form_text (Leave client name)) (sym is ∙ h.2) refl
 no_ask line rest is none (Cancel client name) h = clash (codes "ask ") rest (form_text (Cancel client name)) (sym is ∙ h.2) refl
 no_ask line rest is none Forget h = clash (codes "ask ") rest (form_text Forget) (sym is ∙ h.2) refl
 no_ask line rest is none (Receive digits) h = clash (codes "ask ") rest (form_text (Receive digits)) (sym is ∙ h.2) refl
 
-no_release : (line rest : List ℕ) → line ≡ codes "release " ++ rest → fields client_of name_of rest ≡ None → (form : Form) → HasForm line form → ⊥
-no_release line rest is none (Release client name) h =
-    let tail : rest ≡ release_tail (client, name) = after (codes "release ") rest (release_tail (client, name)) line (sym is) (release_text client name ∙ sym h.2) in
-    no_some (fields client_of name_of rest) (client, name) none (ap (fields client_of name_of) tail ∙ reads_release.each (client, name) (h.1.0, h.1.1))
-no_release line rest is none (Ask client name mode) h = clash (codes "release ") rest (form_text (Ask client name mode)) (sym is ∙ h.2) refl
-no_release line rest is none (Cancel client name) h = clash (codes "release ") rest (form_text (Cancel client name)) (sym is ∙ h.2) refl
-no_release line rest is none Forget h = clash (codes "release ") rest (form_text Forget) (sym is ∙ h.2) refl
-no_release line rest is none (Receive digits) h = clash (codes "release ") rest (form_text (Receive digits)) (sym is ∙ h.2) refl
+no_leave : (line rest : List ℕ) → line ≡ codes "release " ++ rest → fields client_of name_of rest ≡ None → (form : Form) → HasForm line form → ⊥
+no_leave line rest is none (Leave client name) h =
+    let tail : rest ≡ client_tail (client, name) = after (codes "release ") rest (client_tail (client, name)) line (sym is) (leave_text client name ∙ sym h.2) in
+    no_some (fields client_of name_of rest) (client, name) none (ap (fields client_of name_of) tail ∙ reads_client_and_name.each (client, name) (h.1.0, h.1.1))
+no_leave line rest is none (Ask client name mode) h = clash (codes "release ") rest (form_text (Ask client name mode)) (sym is ∙ h.2) refl
+no_leave line rest is none (Cancel client name) h = clash (codes "release ") rest (form_text (Cancel client name)) (sym is ∙ h.2) refl
+no_leave line rest is none Forget h = clash (codes "release ") rest (form_text Forget) (sym is ∙ h.2) refl
+no_leave line rest is none (Receive digits) h = clash (codes "release ") rest (form_text (Receive digits)) (sym is ∙ h.2) refl
 
 no_cancel : (line rest : List ℕ) → line ≡ codes "cancel " ++ rest → fields client_of name_of rest ≡ None → (form : Form) → HasForm line form → ⊥
 no_cancel line rest is none (Cancel client name) h =
-    let tail : rest ≡ release_tail (client, name) = after (codes "cancel ") rest (release_tail (client, name)) line (sym is) (cancel_text client name ∙ sym h.2) in
-    no_some (fields client_of name_of rest) (client, name) none (ap (fields client_of name_of) tail ∙ reads_release.each (client, name) (h.1.0, h.1.1))
+    let tail : rest ≡ client_tail (client, name) = after (codes "cancel ") rest (client_tail (client, name)) line (sym is) (cancel_text client name ∙ sym h.2) in
+    no_some (fields client_of name_of rest) (client, name) none (ap (fields client_of name_of) tail ∙ reads_client_and_name.each (client, name) (h.1.0, h.1.1))
 no_cancel line rest is none (Ask client name mode) h = clash (codes "cancel ") rest (form_text (Ask client name mode)) (sym is ∙ h.2) refl
-no_cancel line rest is none (Release client name) h = clash (codes "cancel ") rest (form_text (Release client name)) (sym is ∙ h.2) refl
+no_cancel line rest is none (Leave client name) h = clash (codes "cancel ") rest (form_text (Leave client name)) (sym is ∙ h.2) refl
 no_cancel line rest is none Forget h = clash (codes "cancel ") rest (form_text Forget) (sym is ∙ h.2) refl
 no_cancel line rest is none (Receive digits) h = clash (codes "cancel ") rest (form_text (Receive digits)) (sym is ∙ h.2) refl
 
 -- what is read of an ask, of a leave, and of a cancel
 pub ask_some : (rest : List ℕ) (kind : BookKind) → ask_of rest ≡ Some kind → (line : List ℕ) → line ≡ codes "ask " ++ rest → length line ≤ 256 → IsEvent line kind
 ask_some rest kind e line is short =
-    let m = mapped (λ (f : ℕ × (List ℕ × Mode)). Asked f.0 f.1.0 f.1.1) (fields client_of (fields name_of mode_of) rest) kind e in
+    let m = mapped (λ (f : ℕ × (List ℕ × Mode)). kinds.Ask f.0 f.1.0 f.1.1) (fields client_of (fields name_of mode_of) rest) kind e in
     let h = reads_ask.only rest m.0 m.1 in
     subst (IsEvent line) m.2 (short, (h.0.0, h.0.1.0), is ∙ (ap (λ (t : List ℕ). codes "ask " ++ t) h.1 ∙ ask_text m.0.0 m.0.1.0 m.0.1.1))
 
 pub ask_none : (rest : List ℕ) → ask_of rest ≡ None → (line : List ℕ) → line ≡ codes "ask " ++ rest → (form : Form) → HasForm line form → ⊥
 ask_none rest e line is =
-    no_ask line rest is (unmapped (λ (f : ℕ × (List ℕ × Mode)). Asked f.0 f.1.0 f.1.1) (fields client_of (fields name_of mode_of) rest) e)
+    no_ask line rest is (unmapped (λ (f : ℕ × (List ℕ × Mode)). kinds.Ask f.0 f.1.0 f.1.1) (fields client_of (fields name_of mode_of) rest) e)
 
-pub release_some : (rest : List ℕ) (kind : BookKind) → release_of rest ≡ Some kind → (line : List ℕ) → line ≡ codes "release " ++ rest → length line ≤ 256
+pub leave_some : (rest : List ℕ) (kind : BookKind) → leave_of rest ≡ Some kind → (line : List ℕ) → line ≡ codes "release " ++ rest → length line ≤ 256
     → IsEvent line kind
-release_some rest kind e line is short =
-    let m = mapped (λ (f : ℕ × List ℕ). Gave f.0 f.1) (fields client_of name_of rest) kind e in
-    let h = reads_release.only rest m.0 m.1 in
-    subst (IsEvent line) m.2 (short, (h.0.0, h.0.1), is ∙ (ap (λ (t : List ℕ). codes "release " ++ t) h.1 ∙ release_text m.0.0 m.0.1))
+leave_some rest kind e line is short =
+    let m = mapped (λ (f : ℕ × List ℕ). kinds.Leave f.0 f.1) (fields client_of name_of rest) kind e in
+    let h = reads_client_and_name.only rest m.0 m.1 in
+    subst (IsEvent line) m.2 (short, (h.0.0, h.0.1), is ∙ (ap (λ (t : List ℕ). codes "release " ++ t) h.1 ∙ leave_text m.0.0 m.0.1))
 
-pub release_none : (rest : List ℕ) → release_of rest ≡ None → (line : List ℕ) → line ≡ codes "release " ++ rest → (form : Form) → HasForm line form → ⊥
-release_none rest e line is = no_release line rest is (unmapped (λ (f : ℕ × List ℕ). Gave f.0 f.1) (fields client_of name_of rest) e)
+pub leave_none : (rest : List ℕ) → leave_of rest ≡ None → (line : List ℕ) → line ≡ codes "release " ++ rest → (form : Form) → HasForm line form → ⊥
+leave_none rest e line is = no_leave line rest is (unmapped (λ (f : ℕ × List ℕ). kinds.Leave f.0 f.1) (fields client_of name_of rest) e)
 
 pub cancel_some : (rest : List ℕ) (kind : BookKind) → cancel_of rest ≡ Some kind → (line : List ℕ) → line ≡ codes "cancel " ++ rest → length line ≤ 256
     → IsEvent line kind
 cancel_some rest kind e line is short =
-    let m = mapped (λ (f : ℕ × List ℕ). Cancelled f.0 f.1) (fields client_of name_of rest) kind e in
-    let h = reads_release.only rest m.0 m.1 in
+    let m = mapped (λ (f : ℕ × List ℕ). kinds.Cancel f.0 f.1) (fields client_of name_of rest) kind e in
+    let h = reads_client_and_name.only rest m.0 m.1 in
     subst (IsEvent line) m.2 (short, (h.0.0, h.0.1), is ∙ (ap (λ (t : List ℕ). codes "cancel " ++ t) h.1 ∙ cancel_text m.0.0 m.0.1))
 
 pub cancel_none : (rest : List ℕ) → cancel_of rest ≡ None → (line : List ℕ) → line ≡ codes "cancel " ++ rest → (form : Form) → HasForm line form → ⊥
-cancel_none rest e line is = no_cancel line rest is (unmapped (λ (f : ℕ × List ℕ). Cancelled f.0 f.1) (fields client_of name_of rest) e)
+cancel_none rest e line is = no_cancel line rest is (unmapped (λ (f : ℕ × List ℕ). kinds.Cancel f.0 f.1) (fields client_of name_of rest) e)
 
 -- none of the words
 pub no_words : (line : List ℕ) → rest_after (codes "receive ") line ≡ None → rest_after (codes "ask ") line ≡ None → rest_after (codes "release ") line ≡ None
     → IsNoLater line → (form : Form) → HasForm line form → ⊥
-no_words line no_receive no_ask no_release no_later (Ask client name mode) h =
+no_words line no_receive no_ask no_leave no_later (Ask client name mode) h =
     clash (codes "ask ") (ask_tail (client, (name, mode))) line (ask_text client name mode ∙ sym h.2) no_ask
-no_words line no_receive no_ask no_release no_later (Release client name) h =
-    clash (codes "release ") (release_tail (client, name)) line (release_text client name ∙ sym h.2) no_release
-no_words line no_receive no_ask no_release no_later (Cancel client name) h = no_later.0 client name h
-no_words line no_receive no_ask no_release no_later Forget h = no_later.1 h
-no_words line no_receive no_ask no_release no_later (Receive digits) h = clash (codes "receive ") digits line (sym h.2) no_receive
+no_words line no_receive no_ask no_leave no_later (Leave client name) h =
+    clash (codes "release ") (client_tail (client, name)) line (leave_text client name ∙ sym h.2) no_leave
+no_words line no_receive no_ask no_leave no_later (Cancel client name) h = no_later.0 client name h
+no_words line no_receive no_ask no_leave no_later Forget h = no_later.1 h
+no_words line no_receive no_ask no_leave no_later (Receive digits) h = clash (codes "receive ") digits line (sym h.2) no_receive
 
 pub no_later_words : (line : List ℕ) → rest_after (codes "cancel ") line ≡ None → (line ≡ codes "forget" → ⊥) → IsNoLater line
 no_later_words line no_cancel no_forget =
-    (λ client name h. clash (codes "cancel ") (release_tail (client, name)) line (cancel_text client name ∙ sym h.2) no_cancel, λ h. no_forget h.2)
+    (λ client name h. clash (codes "cancel ") (client_tail (client, name)) line (cancel_text client name ∙ sym h.2) no_cancel, λ h. no_forget h.2)
 
 pub no_later_cancel : (line rest : List ℕ) → line ≡ codes "cancel " ++ rest → cancel_of rest ≡ None → IsNoLater line
 no_later_cancel line rest is none = (λ client name h. cancel_none rest none line is (Cancel client name) h, λ h. cancel_none rest none line is Forget h)
@@ -203,7 +203,7 @@ no_member BadNode node nodes count bad_count bad_node = (bad_node.0 refl).1
 -- ---- One line is one event
 
 pub ask_once : (line : List ℕ) (client other : ℕ) (name name' : List ℕ) (mode mode' : Mode) → HasForm line (Ask client name mode)
-    → HasForm line (Ask other name' mode') → Asked client name mode ≡ Asked other name' mode'
+    → HasForm line (Ask other name' mode') → kinds.Ask client name mode ≡ kinds.Ask other name' mode'
 ask_once line client other name name' mode mode' g h =
     let one : ℕ × (List ℕ × Mode) = (client, (name, mode)) in
     let two : ℕ × (List ℕ × Mode) = (other, (name', mode')) in
@@ -211,46 +211,46 @@ ask_once line client other name name' mode mode' g h =
     after (codes "ask ") (ask_tail one) (ask_tail two) line (ask_text client name mode ∙ sym g.2) (ask_text other name' mode' ∙ sym h.2) in
     let same : one ≡ two = same_Some _ _ (sym (reads_ask.each one (g.1.0, (g.1.1, tt)))
     ∙ (ap (fields client_of (fields name_of mode_of)) tails ∙ reads_ask.each two (h.1.0, (h.1.1, tt)))) in
-    ap (λ (f : ℕ × (List ℕ × Mode)). Asked f.0 f.1.0 f.1.1) same
+    ap (λ (f : ℕ × (List ℕ × Mode)). kinds.Ask f.0 f.1.0 f.1.1) same
 
-pub release_once : (line : List ℕ) (client other : ℕ) (name name' : List ℕ) → HasForm line (Release client name) → HasForm line (Release other name')
-    → Gave client name ≡ Gave other name'
-release_once line client other name name' g h =
+pub leave_once : (line : List ℕ) (client other : ℕ) (name name' : List ℕ) → HasForm line (Leave client name) → HasForm line (Leave other name')
+    → kinds.Leave client name ≡ kinds.Leave other name'
+leave_once line client other name name' g h =
     let one : ℕ × List ℕ = (client, name) in
     let two : ℕ × List ℕ = (other, name') in
-    let tails : release_tail one ≡ release_tail two =
-    after (codes "release ") (release_tail one) (release_tail two) line (release_text client name ∙ sym g.2) (release_text other name' ∙ sym h.2) in
-    let same : one ≡ two = same_Some _ _ (sym (reads_release.each one (g.1.0, g.1.1))
-    ∙ (ap (fields client_of name_of) tails ∙ reads_release.each two (h.1.0, h.1.1))) in
-    ap (λ (f : ℕ × List ℕ). Gave f.0 f.1) same
+    let tails : client_tail one ≡ client_tail two =
+    after (codes "release ") (client_tail one) (client_tail two) line (leave_text client name ∙ sym g.2) (leave_text other name' ∙ sym h.2) in
+    let same : one ≡ two = same_Some _ _ (sym (reads_client_and_name.each one (g.1.0, g.1.1))
+    ∙ (ap (fields client_of name_of) tails ∙ reads_client_and_name.each two (h.1.0, h.1.1))) in
+    ap (λ (f : ℕ × List ℕ). kinds.Leave f.0 f.1) same
 
 pub cancel_once : (line : List ℕ) (client other : ℕ) (name name' : List ℕ) → HasForm line (Cancel client name) → HasForm line (Cancel other name')
-    → Cancelled client name ≡ Cancelled other name'
+    → kinds.Cancel client name ≡ kinds.Cancel other name'
 cancel_once line client other name name' g h =
     let one : ℕ × List ℕ = (client, name) in
     let two : ℕ × List ℕ = (other, name') in
-    let tails : release_tail one ≡ release_tail two =
-    after (codes "cancel ") (release_tail one) (release_tail two) line (cancel_text client name ∙ sym g.2) (cancel_text other name' ∙ sym h.2) in
-    let same : one ≡ two = same_Some _ _ (sym (reads_release.each one (g.1.0, g.1.1))
-    ∙ (ap (fields client_of name_of) tails ∙ reads_release.each two (h.1.0, h.1.1))) in
-    ap (λ (f : ℕ × List ℕ). Cancelled f.0 f.1) same
+    let tails : client_tail one ≡ client_tail two =
+    after (codes "cancel ") (client_tail one) (client_tail two) line (cancel_text client name ∙ sym g.2) (cancel_text other name' ∙ sym h.2) in
+    let same : one ≡ two = same_Some _ _ (sym (reads_client_and_name.each one (g.1.0, g.1.1))
+    ∙ (ap (fields client_of name_of) tails ∙ reads_client_and_name.each two (h.1.0, h.1.1))) in
+    ap (λ (f : ℕ × List ℕ). kinds.Cancel f.0 f.1) same
 
 pub receive_once : (line digits others : List ℕ) → HasForm line (Receive digits) → HasForm line (Receive others) → digits ≡ others
 receive_once line digits others g h = after (codes "receive ") digits others line (sym g.2) (sym h.2)
 
-pub ask_no_release : (line : List ℕ) (client other : ℕ) (name name' : List ℕ) (mode : Mode) → HasForm line (Ask client name mode)
-    → HasForm line (Release other name') → ⊥
-ask_no_release line client other name name' mode g h =
-    clash (codes "ask ") (ask_tail (client, (name, mode))) (form_text (Release other name')) (ask_text client name mode ∙ (sym g.2 ∙ h.2)) refl
+pub ask_no_leave : (line : List ℕ) (client other : ℕ) (name name' : List ℕ) (mode : Mode) → HasForm line (Ask client name mode)
+    → HasForm line (Leave other name') → ⊥
+ask_no_leave line client other name name' mode g h =
+    clash (codes "ask ") (ask_tail (client, (name, mode))) (form_text (Leave other name')) (ask_text client name mode ∙ (sym g.2 ∙ h.2)) refl
 
 pub ask_no_receive : (line : List ℕ) (client : ℕ) (name digits : List ℕ) (mode : Mode) → HasForm line (Ask client name mode)
     → HasForm line (Receive digits) → ⊥
 ask_no_receive line client name digits mode g h =
     clash (codes "ask ") (ask_tail (client, (name, mode))) (form_text (Receive digits)) (ask_text client name mode ∙ (sym g.2 ∙ h.2)) refl
 
-pub release_no_receive : (line : List ℕ) (client : ℕ) (name digits : List ℕ) → HasForm line (Release client name) → HasForm line (Receive digits) → ⊥
-release_no_receive line client name digits g h =
-    clash (codes "release ") (release_tail (client, name)) (form_text (Receive digits)) (release_text client name ∙ (sym g.2 ∙ h.2)) refl
+pub leave_no_receive : (line : List ℕ) (client : ℕ) (name digits : List ℕ) → HasForm line (Leave client name) → HasForm line (Receive digits) → ⊥
+leave_no_receive line client name digits g h =
+    clash (codes "release ") (client_tail (client, name)) (form_text (Receive digits)) (leave_text client name ∙ (sym g.2 ∙ h.2)) refl
 
 pub ask_no_cancel : (line : List ℕ) (client other : ℕ) (name name' : List ℕ) (mode : Mode) → HasForm line (Ask client name mode) → HasForm line (Cancel other name') → ⊥
 ask_no_cancel line client other name name' mode g h =
@@ -259,19 +259,19 @@ ask_no_cancel line client other name name' mode g h =
 pub ask_no_forget : (line : List ℕ) (client : ℕ) (name : List ℕ) (mode : Mode) → HasForm line (Ask client name mode) → HasForm line Forget → ⊥
 ask_no_forget line client name mode g h = clash (codes "ask ") (ask_tail (client, (name, mode))) (form_text Forget) (ask_text client name mode ∙ (sym g.2 ∙ h.2)) refl
 
-pub release_no_cancel : (line : List ℕ) (client other : ℕ) (name name' : List ℕ) → HasForm line (Release client name) → HasForm line (Cancel other name') → ⊥
-release_no_cancel line client other name name' g h =
-    clash (codes "release ") (release_tail (client, name)) (form_text (Cancel other name')) (release_text client name ∙ (sym g.2 ∙ h.2)) refl
+pub leave_no_cancel : (line : List ℕ) (client other : ℕ) (name name' : List ℕ) → HasForm line (Leave client name) → HasForm line (Cancel other name') → ⊥
+leave_no_cancel line client other name name' g h =
+    clash (codes "release ") (client_tail (client, name)) (form_text (Cancel other name')) (leave_text client name ∙ (sym g.2 ∙ h.2)) refl
 
-pub release_no_forget : (line : List ℕ) (client : ℕ) (name : List ℕ) → HasForm line (Release client name) → HasForm line Forget → ⊥
-release_no_forget line client name g h = clash (codes "release ") (release_tail (client, name)) (form_text Forget) (release_text client name ∙ (sym g.2 ∙ h.2)) refl
+pub leave_no_forget : (line : List ℕ) (client : ℕ) (name : List ℕ) → HasForm line (Leave client name) → HasForm line Forget → ⊥
+leave_no_forget line client name g h = clash (codes "release ") (client_tail (client, name)) (form_text Forget) (leave_text client name ∙ (sym g.2 ∙ h.2)) refl
 
 pub cancel_no_forget : (line : List ℕ) (client : ℕ) (name : List ℕ) → HasForm line (Cancel client name) → HasForm line Forget → ⊥
-cancel_no_forget line client name g h = clash (codes "cancel ") (release_tail (client, name)) (form_text Forget) (cancel_text client name ∙ (sym g.2 ∙ h.2)) refl
+cancel_no_forget line client name g h = clash (codes "cancel ") (client_tail (client, name)) (form_text Forget) (cancel_text client name ∙ (sym g.2 ∙ h.2)) refl
 
 pub cancel_no_receive : (line : List ℕ) (client : ℕ) (name digits : List ℕ) → HasForm line (Cancel client name) → HasForm line (Receive digits) → ⊥
 cancel_no_receive line client name digits g h =
-    clash (codes "cancel ") (release_tail (client, name)) (form_text (Receive digits)) (cancel_text client name ∙ (sym g.2 ∙ h.2)) refl
+    clash (codes "cancel ") (client_tail (client, name)) (form_text (Receive digits)) (cancel_text client name ∙ (sym g.2 ∙ h.2)) refl
 
 pub receive_no_forget : (line digits : List ℕ) → HasForm line (Receive digits) → HasForm line Forget → ⊥
 receive_no_forget line digits g h = clash (codes "receive ") digits (form_text Forget) (sym g.2 ∙ h.2) refl
@@ -297,12 +297,12 @@ first_no_form line version node nodes start form g h =
   where
     no_form : (v : BookVersion) (f : Form) (rest : List ℕ) → version_text v ++ 32 ∷ rest ≡ form_text f → ⊥
     no_form One (Ask client name mode) rest is = clash (codes "book 1 ") rest (form_text (Ask client name mode)) is refl
-    no_form One (Release client name) rest is = clash (codes "book 1 ") rest (form_text (Release client name)) is refl
+    no_form One (Leave client name) rest is = clash (codes "book 1 ") rest (form_text (Leave client name)) is refl
     no_form One (Cancel client name) rest is = clash (codes "book 1 ") rest (form_text (Cancel client name)) is refl
     no_form One Forget rest is = clash (codes "book 1 ") rest (form_text Forget) is refl
     no_form One (Receive digits) rest is = clash (codes "book 1 ") rest (form_text (Receive digits)) is refl
     no_form Two (Ask client name mode) rest is = clash (codes "book 2 ") rest (form_text (Ask client name mode)) is refl
-    no_form Two (Release client name) rest is = clash (codes "book 2 ") rest (form_text (Release client name)) is refl
+    no_form Two (Leave client name) rest is = clash (codes "book 2 ") rest (form_text (Leave client name)) is refl
     no_form Two (Cancel client name) rest is = clash (codes "book 2 ") rest (form_text (Cancel client name)) is refl
     no_form Two Forget rest is = clash (codes "book 2 ") rest (form_text Forget) is refl
     no_form Two (Receive digits) rest is = clash (codes "book 2 ") rest (form_text (Receive digits)) is refl

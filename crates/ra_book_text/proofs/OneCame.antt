@@ -13,7 +13,7 @@ use Rattle.ra_stamp.specs.declared.message.Message.{Message}
 use Rattle.ra_frame.specs.declared.frame.Frame.{Frame}
 use Rattle.ra_book.specs.declared.book.event.BookEvent.{BookEvent}
 use Rattle.ra_book.specs.declared.book.event.BookKind.{BookKind}
-use Rattle.ra_book.specs.declared.book.event.BookKind.TheVariants.{Asked, Gave, Cancelled, Forgot, Got}
+use Rattle.ra_book.specs.declared.book.event.BookKind.TheVariants.{Ask, Leave, Cancel, Forget, Receive}
 use Rattle.ra_book.specs.Book.{BookState}
 use Rattle.ra_book.specs.Settled.{HasTwice, HasUnsent, WasSent, all_received, frames_in, received_among}
 use Rattle.ra_book_text.specs.declared.text_settling.came_frames.Came.{Came}
@@ -32,11 +32,11 @@ frames_said (Opens node nodes start ∷ said) = frames_said said
 frames_said (Happens kind ∷ said) = frames_in kind ++ frames_said said
 
 one_comes : (number : ℕ) (kind : BookKind) → map (λ one. one.frame) (came_by number kind) ≡ frames_in kind
-one_comes number (Asked client name mode) = refl
-one_comes number (Gave client name) = refl
-one_comes number (Cancelled client name) = refl
-one_comes number Forgot = refl
-one_comes number (Got frame) = refl
+one_comes number (Ask client name mode) = refl
+one_comes number (Leave client name) = refl
+one_comes number (Cancel client name) = refl
+one_comes number Forget = refl
+one_comes number (Receive frame) = refl
 
 frames_come : (number : ℕ) (said : List Said) → map (λ one. one.frame) (came_from number said) ≡ frames_said said
 frames_come number [] = refl

@@ -10,7 +10,7 @@ use Rattle.ra_node.specs.Node.{NodeState, opening_node}
 use Rattle.ra_node.specs.Events.{Happening, NodeEvent, NodeEvents, IsForThisNode}
 use Rattle.ra_book.specs.declared.book.event.BookEvent.{BookEvent}
 use Rattle.ra_book.specs.declared.book.event.BookKind.{BookKind}
-use Rattle.ra_book.specs.declared.book.event.BookKind.TheVariants.{Asked, Gave, Cancelled, Forgot, Got}
+use Rattle.ra_book.specs.declared.book.event.BookKind.TheVariants.{Ask, Leave, Cancel, Forget, Receive}
 use Rattle.ra_book.specs.declared.book.sent.Sent.{Sent}
 use Rattle.ra_book.specs.History.{Posting, IsHistory, AreClocked, node_event, happening_of, clock_after, clock_from, clock_of, frames_of}
 use Rattle.ra_book.specs.Book.{BookState, TakenState, as_sent, whole_events}
@@ -184,13 +184,13 @@ module _ (laws : HistoryLaws) where
     pub kinds : kinds_of book.events ≡ kinds_of last.events ++ kind ∷ later
 
   can_at : (last : BookState) (kind : BookKind) (read : IsRead last) → NextAt last.me last.nodes last.start last.events read.history.node kind → CanTake last kind
-  can_at last (Asked client name mode) read next = record {
+  can_at last (Ask client name mode) read next = record {
     no_fault = read.no_fault;
     node = read.history.node;
     leads = read.history.leads;
-    holds = (next.happens.turn.0, subst (λ (es : List BookEvent). clock_after (clock_of es) (Asked client name mode) ≤ 2 ^ 62) (sym (whole_events_are last read)) next.low);
+    holds = (next.happens.turn.0, subst (λ (es : List BookEvent). clock_after (clock_of es) (Ask client name mode) ≤ 2 ^ 62) (sym (whole_events_are last read)) next.low);
   }
-  can_at last (Gave client name) read next = record {
+  can_at last (Leave client name) read next = record {
     no_fault = read.no_fault;
     node = read.history.node;
     leads = read.history.leads;
@@ -199,22 +199,22 @@ module _ (laws : HistoryLaws) where
         | inl nobody ↦ (nobody.entry, nobody.ends.holds)
         | inr one ↦ (one.entry, one.ends.holds)
       ],
-      subst (λ (es : List BookEvent). clock_after (clock_of es) (Gave client name) ≤ 2 ^ 62) (sym (whole_events_are last read)) next.low,
+      subst (λ (es : List BookEvent). clock_after (clock_of es) (Leave client name) ≤ 2 ^ 62) (sym (whole_events_are last read)) next.low,
     );
   }
-  can_at last (Cancelled client name) read next = record {
+  can_at last (Cancel client name) read next = record {
     no_fault = read.no_fault;
     node = read.history.node;
     leads = read.history.leads;
     holds = (
       cancel_was_allowed read.history.node client name (_, _, _, next.happens),
-      subst (λ (es : List BookEvent). clock_after (clock_of es) (Cancelled client name) ≤ 2 ^ 62) (sym (whole_events_are last read)) next.low,
+      subst (λ (es : List BookEvent). clock_after (clock_of es) (Cancel client name) ≤ 2 ^ 62) (sym (whole_events_are last read)) next.low,
     );
   }
-  can_at last Forgot read next =
-      (read.no_fault, subst (λ (es : List BookEvent). clock_after (clock_of es) Forgot ≤ 2 ^ 62) (sym (whole_events_are last read)) next.low)
-  can_at last (Got frame) read next =
-      (read.no_fault, next.for_it, subst (λ (es : List BookEvent). clock_after (clock_of es) (Got frame) ≤ 2 ^ 62) (sym (whole_events_are last read)) next.low)
+  can_at last Forget read next =
+      (read.no_fault, subst (λ (es : List BookEvent). clock_after (clock_of es) Forget ≤ 2 ^ 62) (sym (whole_events_are last read)) next.low)
+  can_at last (Receive frame) read next =
+      (read.no_fault, next.for_it, subst (λ (es : List BookEvent). clock_after (clock_of es) (Receive frame) ≤ 2 ^ 62) (sym (whole_events_are last read)) next.low)
 
   -- the node of a book can take the event with which the book goes on
   pub can_take : (last : BookState) (kind : BookKind) → IsRead last → GoesOnWith last kind → CanTake last kind

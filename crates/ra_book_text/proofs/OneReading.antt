@@ -4,11 +4,11 @@ use Rattle.std.specs.Prelude.{All}
 use Rattle.std.specs.List.{AllZip}
 use Rattle.std.proofs.lemmas.List.Elements.{All-head, All-tail, All-contains, Contains-append_right}
 use Rattle.ra_book.specs.declared.book.event.BookKind.{BookKind}
-use Rattle.ra_book.specs.declared.book.event.BookKind.TheVariants.{Asked, Gave, Cancelled, Forgot, Got}
+use Rattle.ra_book.specs.declared.book.event.BookKind.TheVariants as kinds
 use Rattle.ra_book_text.specs.declared.answering.line_refusal.Refusal.{Refusal}
 use Rattle.ra_book_text.specs.Book.{lines_text}
 use Rattle.ra_book_text.specs.BookText.{Form, HasForm, IsEvent, IsFirst, IsUnread}
-use Rattle.ra_book_text.specs.BookText.Form.{Ask, Release, Cancel, Forget, Receive}
+use Rattle.ra_book_text.specs.BookText.Form.{Ask, Leave, Cancel, Forget, Receive}
 use Rattle.ra_book_text.specs.declared.next_line.book_version.BookVersion.{BookVersion}
 use Rattle.ra_book_text.specs.Input.{HasNoFeed}
 use Rattle.ra_book_text.specs.Texts.{Said, Says, IsText}
@@ -104,11 +104,11 @@ pub record LineLaws : Type 0 where
 
 -- the form of an event
 pub event_form : (line : List ℕ) (kind : BookKind) → IsEvent line kind → (form : Form) × HasForm line form
-event_form line (Asked client name mode) h = (Ask client name mode, h)
-event_form line (Gave client name) h = (Release client name, h)
-event_form line (Cancelled client name) h = (Cancel client name, h)
-event_form line Forgot h = (Forget, h)
-event_form line (Got frame) (digits, form, is) = (Receive digits, form)
+event_form line (kinds.Ask client name mode) h = (Ask client name mode, h)
+event_form line (kinds.Leave client name) h = (Leave client name, h)
+event_form line (kinds.Cancel client name) h = (Cancel client name, h)
+event_form line kinds.Forget h = (Forget, h)
+event_form line (kinds.Receive frame) (digits, form, is) = (Receive digits, form)
 
 module _ (laws : LineLaws) where
   pub first_no_event : (line : List ℕ) (version : BookVersion) (node nodes start : ℕ) (kind : BookKind) → IsFirst line version node nodes start → IsEvent line kind → ⊥

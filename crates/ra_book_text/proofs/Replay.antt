@@ -13,7 +13,7 @@ use Rattle.ra_node.specs.Node.{NodeState}
 use Rattle.ra_text.specs.Lines.{field, mark_line}
 use Rattle.ra_book.specs.EventChecks.{MayTake, NodeRefuses}
 use Rattle.ra_book.specs.declared.book.event.BookKind.{BookKind}
-use Rattle.ra_book.specs.declared.book.event.BookKind.TheVariants.{Asked, Gave, Cancelled, Forgot, Got}
+use Rattle.ra_book.specs.declared.book.event.BookKind.TheVariants.{Ask, Leave, Cancel, Forget, Receive}
 use Rattle.ra_book.specs.declared.error.BookError.{BookError}
 use Rattle.ra_book.specs.declared.error.BookError.TheVariants as error
 use Rattle.ra_book_text.specs.declared.answering.line_refusal.Refusal.{Refusal}
@@ -150,24 +150,24 @@ never_both version old next at line answer other refused x y g h is =
 -- ---- A line that is accepted can only be refused for lack of memory
 
 may_take : (old : Timed) (kind : BookKind) (sends : List Message) (marks : List Mark) (new : Timed) → Takes old kind sends marks new → MayTake old.node kind
-may_take old (Asked client name mode) sends marks new takes = takes.event.turn.0
-may_take old (Gave client name) sends marks new takes =
+may_take old (Ask client name mode) sends marks new takes = takes.event.turn.0
+may_take old (Leave client name) sends marks new takes =
     elim takes.event.turn [
       | inl nobody ↦ (nobody.entry, nobody.ends.holds)
       | inr one ↦ (one.entry, one.ends.holds)
     ]
-may_take old (Cancelled client name) sends marks new takes = cancel_was_allowed old.node client name (sends, marks, new.node, takes.event)
-may_take old Forgot sends marks new takes = tt
-may_take old (Got frame) sends marks new takes = takes.for_this_node
+may_take old (Cancel client name) sends marks new takes = cancel_was_allowed old.node client name (sends, marks, new.node, takes.event)
+may_take old Forget sends marks new takes = tt
+may_take old (Receive frame) sends marks new takes = takes.for_this_node
 
 not_refused : (node : NodeState) (kind : BookKind) (why : BookError) → MayTake node kind → NodeRefuses node kind why → ⊥
-not_refused node (Asked client name mode) why may (inl busy) = may.not_busy busy.1
-not_refused node (Asked client name mode) why may (inr used) = let few = may.number_left in omega (arith, few, used.2)
-not_refused node (Gave client name) why may refused = refused.1 may.0 may.1
-not_refused node (Cancelled client name) why may refused = refused.1 may
-not_refused node Forgot why may refused = refused
-not_refused node (Got frame) why may (inl other) = other.1 may.to
-not_refused node (Got frame) why may (inr stranger) =
+not_refused node (Ask client name mode) why may (inl busy) = may.not_busy busy.1
+not_refused node (Ask client name mode) why may (inr used) = let few = may.number_left in omega (arith, few, used.2)
+not_refused node (Leave client name) why may refused = refused.1 may.0 may.1
+not_refused node (Cancel client name) why may refused = refused.1 may
+not_refused node Forget why may refused = refused
+not_refused node (Receive frame) why may (inl other) = other.1 may.to
+not_refused node (Receive frame) why may (inr stranger) =
     elim stranger.2 [
       | inl own ↦ may.from.other own
       | inr above ↦ let last = may.from.last in omega (arith, last, above)

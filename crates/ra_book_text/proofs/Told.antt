@@ -13,16 +13,16 @@ use Rattle.ra_text.specs.Lines.{mark_line}
 use Rattle.ra_node.specs.Node.{NodeState}
 use Rattle.ra_node.specs.Events.{Event, NodeEvent}
 use Rattle.ra_book.specs.declared.book.event.BookKind.{BookKind}
-use Rattle.ra_book.specs.declared.book.event.BookKind.TheVariants.{Asked, Gave, Cancelled, Forgot, Got}
+use Rattle.ra_book.specs.declared.book.event.BookKind.TheVariants as kinds
 use Rattle.ra_book.specs.History.{node_event, clock_after}
 use Rattle.ra_book_text.specs.declared.answering.line_refusal.Refusal.{Refusal}
 use Rattle.ra_book_text.specs.declared.answering.line_refusal.Refusal.TheVariants as refusal
 use Rattle.ra_book_text.specs.BookText.{Form, HasForm, IsEvent, IsFrameOf, IsUnread}
-use Rattle.ra_book_text.specs.BookText.Form.{Ask, Release, Cancel, Forget, Receive}
+use Rattle.ra_book_text.specs.BookText.Form.{Ask, Leave, Cancel, Forget, Receive}
 use Rattle.ra_book_text.specs.declared.next_line.book_version.BookVersion.{BookVersion}
 use Rattle.ra_book_text.specs.Answers.{AreSends, Accepts, send_line}
 use Rattle.ra_book.specs.Timed.{Timed}
-use Rattle.ra_book_text.proofs.Forms.{ask_once, release_once, cancel_once, receive_once, ask_no_release, ask_no_cancel, ask_no_forget, ask_no_receive, release_no_cancel, release_no_forget, release_no_receive, cancel_no_forget, cancel_no_receive, receive_no_forget}
+use Rattle.ra_book_text.proofs.Forms.{ask_once, leave_once, cancel_once, receive_once, ask_no_leave, ask_no_cancel, ask_no_forget, ask_no_receive, leave_no_cancel, leave_no_forget, leave_no_receive, cancel_no_forget, cancel_no_receive, receive_no_forget}
 
 abbrev pub OneFrame : Type 0
 OneFrame = (bytes : List ℕ) (a b : Frame) → IsFrameText bytes a → IsFrameText bytes b → a ≡ b
@@ -32,49 +32,49 @@ OneText = (format : Format) (a b : List ℕ) (frame : Frame) → IsFrameTextOf f
 
 -- a line is one event
 pub one_event : OneFrame → (line : List ℕ) (a b : BookKind) → IsEvent line a → IsEvent line b → a ≡ b
-one_event law line (Asked c n m) (Asked d o p) g h = ask_once line c d n o m p g h
-one_event law line (Asked c n m) (Gave d o) g h = absurd (ask_no_release line c d n o m g h)
-one_event law line (Asked c n m) (Cancelled d o) g h = absurd (ask_no_cancel line c d n o m g h)
-one_event law line (Asked c n m) Forgot g h = absurd (ask_no_forget line c n m g h)
-one_event law line (Asked c n m) (Got f) g (digits, form, frame) = absurd (ask_no_receive line c n digits m g form)
-one_event law line (Gave c n) (Asked d o p) g h = absurd (ask_no_release line d c o n p h g)
-one_event law line (Gave c n) (Gave d o) g h = release_once line c d n o g h
-one_event law line (Gave c n) (Cancelled d o) g h = absurd (release_no_cancel line c d n o g h)
-one_event law line (Gave c n) Forgot g h = absurd (release_no_forget line c n g h)
-one_event law line (Gave c n) (Got f) g (digits, form, frame) = absurd (release_no_receive line c n digits g form)
-one_event law line (Cancelled c n) (Asked d o p) g h = absurd (ask_no_cancel line d c o n p h g)
-one_event law line (Cancelled c n) (Gave d o) g h = absurd (release_no_cancel line d c o n h g)
-one_event law line (Cancelled c n) (Cancelled d o) g h = cancel_once line c d n o g h
-one_event law line (Cancelled c n) Forgot g h = absurd (cancel_no_forget line c n g h)
-one_event law line (Cancelled c n) (Got f) g (digits, form, frame) = absurd (cancel_no_receive line c n digits g form)
-one_event law line Forgot (Asked d o p) g h = absurd (ask_no_forget line d o p h g)
-one_event law line Forgot (Gave d o) g h = absurd (release_no_forget line d o h g)
-one_event law line Forgot (Cancelled d o) g h = absurd (cancel_no_forget line d o h g)
-one_event law line Forgot Forgot g h = refl
-one_event law line Forgot (Got f) g (digits, form, frame) = absurd (receive_no_forget line digits form g)
-one_event law line (Got f) (Cancelled d o) (digits, form, frame) h = absurd (cancel_no_receive line d o digits h form)
-one_event law line (Got f) Forgot (digits, form, frame) h = absurd (receive_no_forget line digits form h)
-one_event law line (Got f) (Asked d o p) (digits, form, frame) h = absurd (ask_no_receive line d o digits p h form)
-one_event law line (Got f) (Gave d o) (digits, form, frame) h = absurd (release_no_receive line d o digits h form)
-one_event law line (Got f) (Got e) (digits, form, (bytes, has, is)) (digits', form', (bytes', has', is')) =
+one_event law line (kinds.Ask c n m) (kinds.Ask d o p) g h = ask_once line c d n o m p g h
+one_event law line (kinds.Ask c n m) (kinds.Leave d o) g h = absurd (ask_no_leave line c d n o m g h)
+one_event law line (kinds.Ask c n m) (kinds.Cancel d o) g h = absurd (ask_no_cancel line c d n o m g h)
+one_event law line (kinds.Ask c n m) kinds.Forget g h = absurd (ask_no_forget line c n m g h)
+one_event law line (kinds.Ask c n m) (kinds.Receive f) g (digits, form, frame) = absurd (ask_no_receive line c n digits m g form)
+one_event law line (kinds.Leave c n) (kinds.Ask d o p) g h = absurd (ask_no_leave line d c o n p h g)
+one_event law line (kinds.Leave c n) (kinds.Leave d o) g h = leave_once line c d n o g h
+one_event law line (kinds.Leave c n) (kinds.Cancel d o) g h = absurd (leave_no_cancel line c d n o g h)
+one_event law line (kinds.Leave c n) kinds.Forget g h = absurd (leave_no_forget line c n g h)
+one_event law line (kinds.Leave c n) (kinds.Receive f) g (digits, form, frame) = absurd (leave_no_receive line c n digits g form)
+one_event law line (kinds.Cancel c n) (kinds.Ask d o p) g h = absurd (ask_no_cancel line d c o n p h g)
+one_event law line (kinds.Cancel c n) (kinds.Leave d o) g h = absurd (leave_no_cancel line d c o n h g)
+one_event law line (kinds.Cancel c n) (kinds.Cancel d o) g h = cancel_once line c d n o g h
+one_event law line (kinds.Cancel c n) kinds.Forget g h = absurd (cancel_no_forget line c n g h)
+one_event law line (kinds.Cancel c n) (kinds.Receive f) g (digits, form, frame) = absurd (cancel_no_receive line c n digits g form)
+one_event law line kinds.Forget (kinds.Ask d o p) g h = absurd (ask_no_forget line d o p h g)
+one_event law line kinds.Forget (kinds.Leave d o) g h = absurd (leave_no_forget line d o h g)
+one_event law line kinds.Forget (kinds.Cancel d o) g h = absurd (cancel_no_forget line d o h g)
+one_event law line kinds.Forget kinds.Forget g h = refl
+one_event law line kinds.Forget (kinds.Receive f) g (digits, form, frame) = absurd (receive_no_forget line digits form g)
+one_event law line (kinds.Receive f) (kinds.Cancel d o) (digits, form, frame) h = absurd (cancel_no_receive line d o digits h form)
+one_event law line (kinds.Receive f) kinds.Forget (digits, form, frame) h = absurd (receive_no_forget line digits form h)
+one_event law line (kinds.Receive f) (kinds.Ask d o p) (digits, form, frame) h = absurd (ask_no_receive line d o digits p h form)
+one_event law line (kinds.Receive f) (kinds.Leave d o) (digits, form, frame) h = absurd (leave_no_receive line d o digits h form)
+one_event law line (kinds.Receive f) (kinds.Receive e) (digits, form, (bytes, has, is)) (digits', form', (bytes', has', is')) =
     let same : Ok bytes ≡ Ok bytes' = sym has ∙ (ap decode_of (receive_once line digits digits' form form') ∙ has') in
     let one : bytes ≡ bytes' = cc in
-    ap Got (law bytes' f e (subst (λ (bs : List ℕ). IsFrameText bs f) one is) is')
+    ap kinds.Receive (law bytes' f e (subst (λ (bs : List ℕ). IsFrameText bs f) one is) is')
 
 -- the event of a line that has digits is a frame that they stand for
 its_digits : (line : List ℕ) (kind : BookKind) (digits : List ℕ) → IsEvent line kind → HasForm line (Receive digits) → (frame : Frame) × IsFrameOf digits frame
-its_digits line (Asked c n m) digits g form = absurd (ask_no_receive line c n digits m g form)
-its_digits line (Gave c n) digits g form = absurd (release_no_receive line c n digits g form)
-its_digits line (Cancelled c n) digits g form = absurd (cancel_no_receive line c n digits g form)
-its_digits line Forgot digits g form = absurd (receive_no_forget line digits form g)
-its_digits line (Got f) digits (own, form', frame) form = (f, subst (λ (ds : List ℕ). IsFrameOf ds f) (receive_once line own digits form' form) frame)
+its_digits line (kinds.Ask c n m) digits g form = absurd (ask_no_receive line c n digits m g form)
+its_digits line (kinds.Leave c n) digits g form = absurd (leave_no_receive line c n digits g form)
+its_digits line (kinds.Cancel c n) digits g form = absurd (cancel_no_receive line c n digits g form)
+its_digits line kinds.Forget digits g form = absurd (receive_no_forget line digits form g)
+its_digits line (kinds.Receive f) digits (own, form', frame) form = (f, subst (λ (ds : List ℕ). IsFrameOf ds f) (receive_once line own digits form' form) frame)
 
 its_form : (line : List ℕ) (kind : BookKind) → IsEvent line kind → (form : Form) × HasForm line form
-its_form line (Asked c n m) h = (Ask c n m, h)
-its_form line (Gave c n) h = (Release c n, h)
-its_form line (Cancelled c n) h = (Cancel c n, h)
-its_form line Forgot h = (Forget, h)
-its_form line (Got f) (digits, form, frame) = (Receive digits, form)
+its_form line (kinds.Ask c n m) h = (Ask c n m, h)
+its_form line (kinds.Leave c n) h = (Leave c n, h)
+its_form line (kinds.Cancel c n) h = (Cancel c n, h)
+its_form line kinds.Forget h = (Forget, h)
+its_form line (kinds.Receive f) (digits, form, frame) = (Receive digits, form)
 
 abbrev pub NoFault : Type 0
 NoFault = (bytes : List ℕ) (frame : Frame) → IsFrameText bytes frame → first_fault bytes ≡ None

@@ -31,11 +31,11 @@ use Rattle.ra_trace.proofs.Cuts.{IsFree}
 use Rattle.ra_trace.proofs.Spelled.{reads_client, reads_mode, reads_name, reads_node, reads_start}
 use Rattle.ra_book.specs.declared.book.event.BookEvent.{BookEvent}
 use Rattle.ra_book.specs.declared.book.event.BookKind.{BookKind}
-use Rattle.ra_book.specs.declared.book.event.BookKind.TheVariants.{Asked, Gave, Cancelled, Forgot, Got}
+use Rattle.ra_book.specs.declared.book.event.BookKind.TheVariants as kinds
 use Rattle.ra_book.specs.Book.{BookState, HasHistory}
 use Rattle.ra_book_text.specs.Book.{lines_text}
 use Rattle.ra_book_text.specs.BookText.{AllowsKind, IsFirst, first_text, form_text, version_text}
-use Rattle.ra_book_text.specs.BookText.Form.{Ask, Release, Cancel, Forget, Receive}
+use Rattle.ra_book_text.specs.BookText.Form.{Ask, Leave, Cancel, Forget, Receive}
 use Rattle.ra_book_text.specs.declared.next_line.book_version.BookVersion.{BookVersion}
 use Rattle.ra_book_text.specs.declared.next_line.book_version.BookVersion.TheVariants.{One, Two}
 use Rattle.ra_book_text.specs.Input.{HasNoFeed}
@@ -115,8 +115,8 @@ field_free text h = both (codes " ") text (word (codes " ") refl) h
 ask_length : (client name mode : List ℕ) → length (codes "ask" ++ field client ++ field name ++ field mode) ≡ 6 + length client + length name + length mode
 ask_length client name mode = let a = length-append (client ++ field name) (field mode) in let b = length-append client (field name) in omega (arith, a, b)
 
-release_length : (client name : List ℕ) → length (codes "release" ++ field client ++ field name) ≡ 9 + length client + length name
-release_length client name = let a = length-append client (field name) in omega (arith, a)
+leave_length : (client name : List ℕ) → length (codes "release" ++ field client ++ field name) ≡ 9 + length client + length name
+leave_length client name = let a = length-append client (field name) in omega (arith, a)
 
 cancel_length : (client name : List ℕ) → length (codes "cancel" ++ field client ++ field name) ≡ 8 + length client + length name
 cancel_length client name = let a = length-append client (field name) in omega (arith, a)
@@ -127,9 +127,9 @@ asker_free start client name h fits is =
     both (start ++ field (decimal client)) (field name) (both start (field (decimal client)) (word start h) (field_free (decimal client) (client_free client fits)))
     (field_free name (name_free name is))
 
-pub asked_line : (client : ℕ) (name : List ℕ) (mode : Mode) → IsClientNumber client → IsName name
-    → IsWrittenEvent (form_text (Ask client name mode)) (Asked client name mode)
-asked_line client name mode fits is = record {
+pub ask_line : (client : ℕ) (name : List ℕ) (mode : Mode) → IsClientNumber client → IsName name
+    → IsWrittenEvent (form_text (Ask client name mode)) (kinds.Ask client name mode)
+ask_line client name mode fits is = record {
   is_event =
       let a = ask_length (decimal client) name (mode_word mode) in
       let b = short_client client fits in
@@ -140,20 +140,20 @@ asked_line client name mode fits is = record {
       (field_free (mode_word mode) (mode_free mode));
 }
 
-pub gave_line : (client : ℕ) (name : List ℕ) → IsClientNumber client → IsName name
-    → IsWrittenEvent (form_text (Release client name)) (Gave client name)
-gave_line client name fits is = record {
+pub leave_line : (client : ℕ) (name : List ℕ) → IsClientNumber client → IsName name
+    → IsWrittenEvent (form_text (Leave client name)) (kinds.Leave client name)
+leave_line client name fits is = record {
   is_event =
-      let a = release_length (decimal client) name in
+      let a = leave_length (decimal client) name in
       let b = short_client client fits in
       let d = is.not_long in (omega (arith, a, b, d), (fits, is), refl);
   spelled = refl;
   no_feed = asker_free (codes "release") client name refl fits is;
 }
 
-pub cancelled_line : (client : ℕ) (name : List ℕ) → IsClientNumber client → IsName name
-    → IsWrittenEvent (form_text (Cancel client name)) (Cancelled client name)
-cancelled_line client name fits is = record {
+pub cancel_line : (client : ℕ) (name : List ℕ) → IsClientNumber client → IsName name
+    → IsWrittenEvent (form_text (Cancel client name)) (kinds.Cancel client name)
+cancel_line client name fits is = record {
   is_event =
       let a = cancel_length (decimal client) name in
       let b = short_client client fits in
@@ -162,12 +162,12 @@ cancelled_line client name fits is = record {
   no_feed = asker_free (codes "cancel") client name refl fits is;
 }
 
-pub forgot_line : IsWrittenEvent (form_text Forget) Forgot
-forgot_line = record { is_event = (omega arith, tt, refl); spelled = refl; no_feed = word (codes "forget") refl }
+pub forget_line : IsWrittenEvent (form_text Forget) kinds.Forget
+forget_line = record { is_event = (omega arith, tt, refl); spelled = refl; no_feed = word (codes "forget") refl }
 
-pub got_line : (frame : Frame) (bytes : List ℕ) → IsWrittenText bytes frame → IsBytes bytes → length bytes ≤ 56
-    → IsWrittenEvent (form_text (Receive (encode_lower bytes))) (Got frame)
-got_line frame bytes text fits short = record {
+pub frame_line : (frame : Frame) (bytes : List ℕ) → IsWrittenText bytes frame → IsBytes bytes → length bytes ≤ 56
+    → IsWrittenEvent (form_text (Receive (encode_lower bytes))) (kinds.Receive frame)
+frame_line frame bytes text fits short = record {
   is_event =
       let a = length-encode_with lower_digits bytes in
       (encode_lower bytes, (omega (arith, a, short), tt, refl), (bytes, decode_of-encode_lower bytes fits, (V2, text)));
@@ -223,25 +223,25 @@ first_free version node nodes start count in_it begins =
 -- ---- The version
 
 stays_two : (kind : BookKind) → version_with kind Two ≡ Two
-stays_two (Asked client name mode) = refl
-stays_two (Gave client name) = refl
-stays_two (Cancelled client name) = refl
-stays_two Forgot = refl
-stays_two (Got frame) = refl
+stays_two (kinds.Ask client name mode) = refl
+stays_two (kinds.Leave client name) = refl
+stays_two (kinds.Cancel client name) = refl
+stays_two kinds.Forget = refl
+stays_two (kinds.Receive frame) = refl
 
 is_two : (kind : BookKind) (rest : BookVersion) → (AllowsKind One kind → ⊥) → version_with kind rest ≡ Two
-is_two (Asked client name mode) rest not = absurd (not tt)
-is_two (Gave client name) rest not = absurd (not tt)
-is_two (Cancelled client name) rest not = refl
-is_two Forgot rest not = refl
-is_two (Got frame) rest not = absurd (not tt)
+is_two (kinds.Ask client name mode) rest not = absurd (not tt)
+is_two (kinds.Leave client name) rest not = absurd (not tt)
+is_two (kinds.Cancel client name) rest not = refl
+is_two kinds.Forget rest not = refl
+is_two (kinds.Receive frame) rest not = absurd (not tt)
 
 is_rest : (kind : BookKind) (rest : BookVersion) → AllowsKind One kind → version_with kind rest ≡ rest
-is_rest (Asked client name mode) rest is = refl
-is_rest (Gave client name) rest is = refl
-is_rest (Cancelled client name) rest is = absurd is
-is_rest Forgot rest is = absurd is
-is_rest (Got frame) rest is = refl
+is_rest (kinds.Ask client name mode) rest is = refl
+is_rest (kinds.Leave client name) rest is = refl
+is_rest (kinds.Cancel client name) rest is = absurd is
+is_rest kinds.Forget rest is = absurd is
+is_rest (kinds.Receive frame) rest is = refl
 
 -- an event that no book of version 1 has makes the book one of version 2
 pub version_two : (events : List BookEvent) (i : ℕ) (event : BookEvent) → i < length events → get_or events i event ≡ event → (AllowsKind One event.kind → ⊥) → Two ≡ version_for events
@@ -308,11 +308,11 @@ frame_fits bytes clock (Request from to name mode seq) h = record { clock = h.cl
 frame_fits bytes clock (Reply from to name seq) h = record { clock = h.clock_range; seq = h.seq_range.0; apart = h.apart }
 
 event_fits : (line : List ℕ) (kind : BookKind) → IsWrittenEvent line kind → IsUnfit kind → ⊥
-event_fits line (Asked client name mode) h unfit = unfit
-event_fits line (Gave client name) h unfit = unfit
-event_fits line (Cancelled client name) h unfit = unfit
-event_fits line Forgot h unfit = unfit
-event_fits line (Got frame) h unfit = let (bytes, text, is) = h.spelled in unfit (frame_fits bytes frame.clock frame.message text)
+event_fits line (kinds.Ask client name mode) h unfit = unfit
+event_fits line (kinds.Leave client name) h unfit = unfit
+event_fits line (kinds.Cancel client name) h unfit = unfit
+event_fits line kinds.Forget h unfit = unfit
+event_fits line (kinds.Receive frame) h unfit = let (bytes, text, is) = h.spelled in unfit (frame_fits bytes frame.clock frame.message text)
 
 all_fit : (lines : List (List ℕ)) (events : List BookEvent) → AllZip IsWrittenEvent lines (map (λ event. event.kind) events)
     → All (λ event. IsUnfit event.kind → ⊥) events

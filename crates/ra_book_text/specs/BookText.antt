@@ -12,7 +12,7 @@ use Rattle.ra_stamp.specs.Mode.{mode_word}
 use Rattle.ra_text.specs.Lines.{field}
 use Rattle.ra_trace.specs.TraceText.{IsClientNumber}
 use Rattle.ra_book.specs.declared.book.event.BookKind.{BookKind}
-use Rattle.ra_book.specs.declared.book.event.BookKind.TheVariants.{Asked, Gave, Cancelled, Forgot, Got}
+use Rattle.ra_book.specs.declared.book.event.BookKind.TheVariants as kinds
 use Rattle.ra_book_text.specs.declared.next_line.book_version.BookVersion.{BookVersion}
 use Rattle.ra_book_text.specs.declared.next_line.book_version.BookVersion.TheVariants.{One, Two}
 use Rattle.ra_book_text.specs.declared.answering.line_refusal.Refusal.{Refusal}
@@ -38,7 +38,7 @@ pub record IsFirst (line : List ℕ) (version : BookVersion) (node nodes start :
 -- what each other line has the form of: a client asks, leaves or gives up, the node forgets names, or digits come
 pub data Form : Type 0 where
   Ask : (client : ℕ) → (name : List ℕ) → (mode : Mode) → Form
-  Release : (client : ℕ) → (name : List ℕ) → Form
+  Leave : (client : ℕ) → (name : List ℕ) → Form
   Cancel : (client : ℕ) → (name : List ℕ) → Form
   Forget : Form
   Receive : (digits : List ℕ) → Form
@@ -46,7 +46,7 @@ pub data Form : Type 0 where
 -- a line of this form; what follows `receive` and a space is taken as digits, whatever it is
 abbrev pub form_text : Form → List ℕ
 form_text (Ask client name mode) = codes "ask" ++ field (decimal client) ++ field name ++ field (mode_word mode)
-form_text (Release client name) = codes "release" ++ field (decimal client) ++ field name
+form_text (Leave client name) = codes "release" ++ field (decimal client) ++ field name
 form_text (Cancel client name) = codes "cancel" ++ field (decimal client) ++ field name
 form_text Forget = codes "forget"
 form_text (Receive digits) = codes "receive" ++ field digits
@@ -54,7 +54,7 @@ form_text (Receive digits) = codes "receive" ++ field digits
 -- the fields are in their ranges
 abbrev pub IsForm : Form → Type 0
 IsForm (Ask client name mode) = IsClientNumber client × IsName name
-IsForm (Release client name) = IsClientNumber client × IsName name
+IsForm (Leave client name) = IsClientNumber client × IsName name
 IsForm (Cancel client name) = IsClientNumber client × IsName name
 IsForm Forget = Unit {0}
 IsForm (Receive digits) = Unit {0}
@@ -80,11 +80,11 @@ IsNoFrame digits (Event cause) = ⊥
 
 -- the line is this event, in a book that allows it; a frame comes in version 1 or 2
 abbrev pub IsEvent : List ℕ → BookKind → Type 0
-IsEvent line (Asked client name mode) = HasForm line (Ask client name mode)
-IsEvent line (Gave client name) = HasForm line (Release client name)
-IsEvent line (Cancelled client name) = HasForm line (Cancel client name)
-IsEvent line Forgot = HasForm line Forget
-IsEvent line (Got frame) = (digits : List ℕ) × HasForm line (Receive digits) × IsFrameOf digits frame
+IsEvent line (kinds.Ask client name mode) = HasForm line (Ask client name mode)
+IsEvent line (kinds.Leave client name) = HasForm line (Leave client name)
+IsEvent line (kinds.Cancel client name) = HasForm line (Cancel client name)
+IsEvent line kinds.Forget = HasForm line Forget
+IsEvent line (kinds.Receive frame) = (digits : List ℕ) × HasForm line (Receive digits) × IsFrameOf digits frame
 
 -- Why a line is no event: it has none of the forms, or its digits stand for no frame. The other refusals are those of events.
 abbrev pub IsUnread : List ℕ → Refusal → Type 0
@@ -101,11 +101,11 @@ IsNoLater line = ((client : ℕ) (name : List ℕ) → HasForm line (Cancel clie
 
 -- a book of this version can have an event of this kind: one of version 1 has no cancels and does not forget
 abbrev pub AllowsKind : BookVersion → BookKind → Type 0
-AllowsKind One (Asked client name mode) = Unit {0}
-AllowsKind One (Gave client name) = Unit {0}
-AllowsKind One (Cancelled client name) = ⊥
-AllowsKind One Forgot = ⊥
-AllowsKind One (Got frame) = Unit {0}
+AllowsKind One (kinds.Ask client name mode) = Unit {0}
+AllowsKind One (kinds.Leave client name) = Unit {0}
+AllowsKind One (kinds.Cancel client name) = ⊥
+AllowsKind One kinds.Forget = ⊥
+AllowsKind One (kinds.Receive frame) = Unit {0}
 AllowsKind Two kind = Unit {0}
 
 -- in a book of this version the line is this event

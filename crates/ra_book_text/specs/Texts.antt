@@ -8,7 +8,7 @@ use Rattle.ra_node.specs.Node.{resource_at}
 use Rattle.ra_node.specs.Resource.{Holds, IsKeptWaiting}
 use Rattle.ra_node.specs.Turns.{MayAsk}
 use Rattle.ra_book.specs.declared.book.event.BookKind.{BookKind}
-use Rattle.ra_book.specs.declared.book.event.BookKind.TheVariants.{Asked, Gave, Cancelled, Forgot, Got}
+use Rattle.ra_book.specs.declared.book.event.BookKind.TheVariants.{Ask, Leave, Cancel, Forget, Receive}
 use Rattle.ra_book.specs.Book.{BookState, HasClock, HasHistory, IsWhole, Runs}
 use Rattle.ra_book.specs.Settled.{IsCluster, frames_in}
 use Rattle.ra_book_text.specs.Book.{lines_text}
@@ -84,14 +84,14 @@ pub record AreWhole (lines : List (List ℕ)) (books ordered : List BookState) :
 -- the node of the book takes this event: the client may ask, holds what it leaves, or waits or is queued for what it gives up, or the
 -- frame is for this node and from another one; and a clock is left for it
 abbrev pub CanTake : BookState → BookKind → Type 0
-CanTake book (Asked client name mode) =
-    Runs book (λ node. MayAsk (resource_at node name) client × HasClock book (Asked client name mode))
-CanTake book (Gave client name) =
-    Runs book (λ node. ((entry : Entry) × Holds (resource_at node name) client entry) × HasClock book (Gave client name))
-CanTake book (Cancelled client name) =
-    Runs book (λ node. IsKeptWaiting (resource_at node name) client × HasClock book (Cancelled client name))
-CanTake book Forgot = (book.fault ≡ None) × HasClock book Forgot
-CanTake book (Got frame) = (book.fault ≡ None) × IsForNode book.me book.nodes frame.message × HasClock book (Got frame)
+CanTake book (Ask client name mode) =
+    Runs book (λ node. MayAsk (resource_at node name) client × HasClock book (Ask client name mode))
+CanTake book (Leave client name) =
+    Runs book (λ node. ((entry : Entry) × Holds (resource_at node name) client entry) × HasClock book (Leave client name))
+CanTake book (Cancel client name) =
+    Runs book (λ node. IsKeptWaiting (resource_at node name) client × HasClock book (Cancel client name))
+CanTake book Forget = (book.fault ≡ None) × HasClock book Forget
+CanTake book (Receive frame) = (book.fault ≡ None) × IsForNode book.me book.nodes frame.message × HasClock book (Receive frame)
 
 -- the frame that comes by an event in this line, if one does
 abbrev pub came_by : ℕ → BookKind → List Came

@@ -9,10 +9,10 @@ use Rattle.ra_text.specs.declared.draft.Draft.{Draft}
 use Rattle.ra_text.specs.Drafting.{Adds, Says}
 use Rattle.ra_book.specs.declared.book.event.BookEvent.{BookEvent}
 use Rattle.ra_book.specs.declared.book.event.BookKind.{BookKind}
-use Rattle.ra_book.specs.declared.book.event.BookKind.TheVariants.{Asked, Gave, Cancelled, Forgot, Got}
+use Rattle.ra_book.specs.declared.book.event.BookKind.TheVariants as kinds
 use Rattle.ra_book.specs.Book.{BookState}
 use Rattle.ra_book_text.specs.BookText.{IsEvent, IsFirst, form_text}
-use Rattle.ra_book_text.specs.BookText.Form.{Ask, Release, Cancel, Forget, Receive}
+use Rattle.ra_book_text.specs.BookText.Form.{Ask, Leave, Cancel, Forget, Receive}
 use Rattle.ra_book_text.specs.declared.next_line.book_version.BookVersion.{BookVersion}
 use Rattle.ra_book_text.specs.declared.next_line.book_version.BookVersion.TheVariants.{One, Two}
 use Rattle.ra_book_text.specs.Input.{HasNoFeed}
@@ -20,11 +20,11 @@ use Rattle.ra_book_text.specs.Book.{lines_text}
 
 -- how the line of an event is spelled: a frame that came is in version 2 and in lower case
 abbrev pub IsSpelled : List ℕ → BookKind → Type 0
-IsSpelled line (Asked client name mode) = line ≡ form_text (Ask client name mode)
-IsSpelled line (Gave client name) = line ≡ form_text (Release client name)
-IsSpelled line (Cancelled client name) = line ≡ form_text (Cancel client name)
-IsSpelled line Forgot = line ≡ form_text Forget
-IsSpelled line (Got frame) = (bytes : List ℕ) × IsWrittenText bytes frame × (line ≡ form_text (Receive (encode_lower bytes)))
+IsSpelled line (kinds.Ask client name mode) = line ≡ form_text (Ask client name mode)
+IsSpelled line (kinds.Leave client name) = line ≡ form_text (Leave client name)
+IsSpelled line (kinds.Cancel client name) = line ≡ form_text (Cancel client name)
+IsSpelled line kinds.Forget = line ≡ form_text Forget
+IsSpelled line (kinds.Receive frame) = (bytes : List ℕ) × IsWrittenText bytes frame × (line ≡ form_text (Receive (encode_lower bytes)))
 
 -- the line is this event, spelled so, and has no line feed
 pub record IsWrittenEvent (line : List ℕ) (kind : BookKind) : Type 0 where
@@ -34,11 +34,11 @@ pub record IsWrittenEvent (line : List ℕ) (kind : BookKind) : Type 0 where
 
 -- the version in which these events are written: the second if a client gave up or the node forgot names, and otherwise the first
 abbrev pub version_with : BookKind → BookVersion → BookVersion
-version_with (Asked client name mode) rest = rest
-version_with (Gave client name) rest = rest
-version_with (Cancelled client name) rest = Two
-version_with Forgot rest = Two
-version_with (Got frame) rest = rest
+version_with (kinds.Ask client name mode) rest = rest
+version_with (kinds.Leave client name) rest = rest
+version_with (kinds.Cancel client name) rest = Two
+version_with kinds.Forget rest = Two
+version_with (kinds.Receive frame) rest = rest
 
 abbrev pub version_for : List BookEvent → BookVersion
 version_for [] = One
@@ -59,11 +59,11 @@ AddsLines old new lines = new ≡ old ++ lines_text lines
 
 -- the frame that comes by the event does not fit, so that it has no text
 abbrev pub IsUnfit : BookKind → Type 0
-IsUnfit (Asked client name mode) = ⊥
-IsUnfit (Gave client name) = ⊥
-IsUnfit (Cancelled client name) = ⊥
-IsUnfit Forgot = ⊥
-IsUnfit (Got frame) = Fits frame → ⊥
+IsUnfit (kinds.Ask client name mode) = ⊥
+IsUnfit (kinds.Leave client name) = ⊥
+IsUnfit (kinds.Cancel client name) = ⊥
+IsUnfit kinds.Forget = ⊥
+IsUnfit (kinds.Receive frame) = Fits frame → ⊥
 
 -- ---- Only private contracts and proofs speak of it.
 

@@ -82,7 +82,7 @@ fn push_bytes(text: &mut Draft, bytes: &[u8])
 
 /// Adds the line of a frame that comes. Returns whether it fits: otherwise it has no text, and nothing is added.
 fn push_frame(text: &mut Draft, frame: &Frame) -> bool
-    ensures { MatchBool result (AddsEvent text.old text.new (BookKind.Got frame.now)) (Fits frame.now → ⊥) }
+    ensures { MatchBool result (AddsEvent text.old text.new (BookKind.Receive frame.now)) (Fits frame.now → ⊥) }
 {
     if !frame.fits() {
         return false;
@@ -99,24 +99,24 @@ fn push_event(text: &mut Draft, kind: &BookKind) -> bool
     ensures { MatchBool result (AddsEvent text.old text.new kind.now) (IsUnfit kind.now) }
 {
     match kind {
-        BookKind::Asked { client, name, mode } => {
+        BookKind::Ask { client, name, mode } => {
             push_client(text, "ask", *client, name);
             text.push_field(mode.word());
             text.end_line();
             true
         }
-        BookKind::Gave { client, name } => {
+        BookKind::Leave { client, name } => {
             push_client(text, "release", *client, name);
             text.end_line();
             true
         }
-        BookKind::Cancelled { client, name } => {
+        BookKind::Cancel { client, name } => {
             push_client(text, "cancel", *client, name);
             text.end_line();
             true
         }
-        BookKind::Got(frame) => push_frame(text, frame),
-        BookKind::Forgot => {
+        BookKind::Receive(frame) => push_frame(text, frame),
+        BookKind::Forget => {
             text.push("forget");
             text.end_line();
             true

@@ -8,7 +8,7 @@ use Rattle.ra_stamp.specs.NodeId.{IsNodeNumber}
 use Rattle.ra_automaton.specs.Steps.{greatest_number}
 use Rattle.ra_node.specs.Node.{NodeState}
 use Rattle.ra_node.specs.Events.{Event, Happening}
-use Rattle.ra_node.specs.Events.Event.{Ask as AskedFor}
+use Rattle.ra_node.specs.Events.{Event as acts}
 use Rattle.ra_world.specs.declared.text.report.Report.{Report}
 use Rattle.ra_world.specs.declared.step.Step.{Step}
 use Rattle.ra_world.specs.declared.step.Step.TheVariants.{Ask}
@@ -22,7 +22,7 @@ use Rattle.ra_schedule.specs.Orderly.{HoldsName, WaitsForName, IsInOrder, TakeNa
 use Rattle.ra_schedule.specs.Orderly as any
 use Rattle.ra_book.specs.declared.book.event.BookEvent.{BookEvent}
 use Rattle.ra_book.specs.declared.book.event.BookKind.{BookKind}
-use Rattle.ra_book.specs.declared.book.event.BookKind.TheVariants.{Asked, Gave, Cancelled, Got, Forgot}
+use Rattle.ra_book.specs.declared.book.event.BookKind.TheVariants as kinds
 use Rattle.ra_book.specs.declared.book.sent.Sent.{Sent}
 use Rattle.ra_book.specs.History.{IsHistory, node_event}
 use Rattle.ra_book.specs.Book.{BookState, whole_events, HasHistory, LeadsTo}
@@ -91,12 +91,12 @@ split_at (e ∷ events) (z ∷ xs) ys x is =
       event_is = rest.event_is;
     }
 
-asked_kind : (kind : BookKind) (client : ℕ) (name : List ℕ) (mode : Mode) → node_event kind ≡ AskedFor client name mode → kind ≡ Asked client name mode
-asked_kind (Asked c r m) client name mode is = cc
-asked_kind (Gave c r) client name mode is = absurd cc
-asked_kind (Cancelled c r) client name mode is = absurd cc
-asked_kind (Got frame) client name mode is = absurd cc
-asked_kind Forgot client name mode is = absurd cc
+kind_of_ask : (kind : BookKind) (client : ℕ) (name : List ℕ) (mode : Mode) → node_event kind ≡ acts.Ask client name mode → kind ≡ kinds.Ask client name mode
+kind_of_ask (kinds.Ask c r m) client name mode is = cc
+kind_of_ask (kinds.Leave c r) client name mode is = absurd cc
+kind_of_ask (kinds.Cancel c r) client name mode is = absurd cc
+kind_of_ask (kinds.Receive frame) client name mode is = absurd cc
+kind_of_ask kinds.Forget client name mode is = absurd cc
 
 happened_behind : (i : ℕ) (before after : List Move) → happened_at i (before ++ after) ≡ happened_at i before ++ happened_at i after
 happened_behind i [] after = refl
@@ -160,12 +160,12 @@ module _ (laws : GoingOnLaws) (books : List BookState) (moves : List Move) (repo
       let within = place node at in
       let b = book_at books k in
       let me = me_at node at in
-      let event = AskedFor client name mode in
+      let event = acts.Ask client name mode in
       let here : events_at b.me ask.step ≡ event ∷ [] =
       ap (events_at b.me) step ∙ subst (λ (i : ℕ). events_at i (Ask node client name mode) ≡ event ∷ []) (sym me) (at_node node event) in
       let s = split_there k within before after ask event moves_are here in
-      let kind = asked_kind s.event.kind client name mode s.event_is in
-      let events_are : whole_events b ≡ s.before ++ record { clock = s.event.clock; kind = Asked client name mode } ∷ s.after =
+      let kind = kind_of_ask s.event.kind client name mode s.event_is in
+      let events_are : whole_events b ≡ s.before ++ record { clock = s.event.clock; kind = kinds.Ask client name mode } ∷ s.after =
       whole_events_are b (cluster.whole k nobody within)
       ∙ subst (λ (x : BookKind). b.events ≡ s.before ++ record { clock = s.event.clock; kind = x } ∷ s.after) kind s.events_are in
       let held = ordered k nobody within s.before s.after s.event.clock client name mode (nodes b.me) events_are

@@ -6,7 +6,7 @@ use Rattle.ra_node.specs.Events.{Happening, NodeEvents}
 use Rattle.ra_schedule.specs.LockOrder.{IsBelow}
 use Rattle.ra_schedule.specs.Orderly.{HoldsName, WaitsForName, IsInOrder}
 use Rattle.ra_book.specs.declared.book.event.BookEvent.{BookEvent}
-use Rattle.ra_book.specs.declared.book.event.BookKind.TheVariants.{Asked}
+use Rattle.ra_book.specs.declared.book.event.BookKind.TheVariants.{Ask}
 use Rattle.ra_book.specs.History.{node_event}
 use Rattle.ra_book.specs.Book.{BookState, whole_events, LeadsTo}
 
@@ -18,7 +18,7 @@ WasAfter book events node = (happened : List Happening) × (map (λ h. h.event) 
 -- whenever a client of this node asked for a name, it waited for nothing, and each name that it held was below that one
 abbrev pub TakesNamesInOrder : BookState → Type 0
 TakesNamesInOrder book = (before after : List BookEvent) (clock client : ℕ) (name : List ℕ) (mode : Mode) (node : NodeState)
-    → whole_events book ≡ before ++ record { clock = clock; kind = Asked client name mode } ∷ after → WasAfter book before node
+    → whole_events book ≡ before ++ record { clock = clock; kind = Ask client name mode } ∷ after → WasAfter book before node
     → IsInOrder node client name
 
 -- some client of these books can go on: it waits for nothing, and it holds this name or one above it

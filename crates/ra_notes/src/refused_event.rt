@@ -20,7 +20,7 @@ pub struct ClientState {
 impl ClientState {
     /// Notes the event of a line that the node took, and its marks.
     fn note_line(&mut self, line: u64, kind: &BookKind, marks: &[Mark]) {
-        if let BookKind::Asked { client, name, mode } = kind
+        if let BookKind::Ask { client, name, mode } = kind
             && self.client == *client
             && self.name == *name
         {
@@ -30,7 +30,7 @@ impl ClientState {
                 since: line,
             });
         }
-        if let BookKind::Cancelled { client, name } = kind
+        if let BookKind::Cancel { client, name } = kind
             && self.client == *client
             && self.name == *name
         {
@@ -101,9 +101,9 @@ pub fn refused_event(
     let mut state = match &event_of(line) {
         // Before the first line of the book, the client has not asked.
         Ok(
-            BookKind::Asked { client, name, .. }
-            | BookKind::Gave { client, name }
-            | BookKind::Cancelled { client, name },
+            BookKind::Ask { client, name, .. }
+            | BookKind::Leave { client, name }
+            | BookKind::Cancel { client, name },
         ) => {
             Some(ClientState {
                 client: *client,

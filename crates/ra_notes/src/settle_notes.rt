@@ -52,7 +52,7 @@ fn push_event(
     cause: TextCause,
 ) -> bool {
     let frame = match event_of(line) {
-        Ok(BookKind::Got(frame)) => Some(frame),
+        Ok(BookKind::Receive(frame)) => Some(frame),
         _ => None,
     };
     if let Some(opening) = &openings.last {
@@ -64,7 +64,7 @@ fn push_event(
     }
     if let TextCause::Line = cause
         && let Some(opening) = &openings.last
-        && let Ok(BookKind::Cancelled { .. } | BookKind::Forgot) = event_of(line)
+        && let Ok(BookKind::Cancel { .. } | BookKind::Forget) = event_of(line)
     {
         // Only the version of the book can be in the way of such a line.
         push_numbered(note, ": the book begins at line ", opening.line);

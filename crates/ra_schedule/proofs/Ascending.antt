@@ -12,7 +12,7 @@ use Rattle.ra_automaton.specs.State.{IsOtherNode}
 use Rattle.ra_node.specs.Resource.{Resource, IsBusy}
 use Rattle.ra_node.specs.Node.{NodeState, opening_node, resource_at}
 use Rattle.ra_node.specs.Events.{Event, IsNamed, name_of_event, IsForThisNode}
-use Rattle.ra_node.specs.Events.Event.{Ask as AskedFor, Leave as GivenBack, Cancel as GivenUp, Receive as Received, Forget as Forgot}
+use Rattle.ra_node.specs.Events.{Event as acts}
 use Rattle.ra_node.proofs.Lookups.{same_or_apart}
 use Rattle.ra_node.proofs.Updates.{received_turn}
 use Rattle.ra_world.specs.declared.step.Step.{Step}
@@ -115,7 +115,7 @@ module _ (nodes_laws : LawsOfNodes) (laws : LawsOfRuns) (n start : ℕ) (count :
   deliver message under_way step =
       let p = to_of message in
       let between = laws.between_nodes n start moves message count before under_way in
-      let event = Received message in
+      let event = acts.Receive message in
       let here : events_at p move.step ≡ event ∷ [] = ap (events_at p) step ∙ at_node p event in
       let went = moved nodes_laws n start moves move old.nodes nodes' old.ends run.ends.1 p event between.0 here in
       let there = old.each p between.0 in
@@ -194,7 +194,7 @@ module _ (nodes_laws : LawsOfNodes) (laws : LawsOfRuns) (n start : ℕ) (count :
   ask : (p client : ℕ) (name : List ℕ) (mode : Mode) → IsNode n p → move.step ≡ Ask p client name mode → IsInOrder (old.nodes p) client name
       → AllAscend n start (moves ++ move ∷ [])
   ask p client name mode within step ordered =
-      let event = AskedFor client name mode in
+      let event = acts.Ask client name mode in
       let here : events_at p move.step ≡ event ∷ [] = ap (events_at p) step ∙ at_node p event in
       let went = moved nodes_laws n start moves move old.nodes nodes' old.ends run.ends.1 p event within here in
       let turn = ask_turn (old.nodes p) (nodes' p) client name mode move.sends move.marks went.happened in
@@ -238,7 +238,7 @@ module _ (nodes_laws : LawsOfNodes) (laws : LawsOfRuns) (n start : ℕ) (count :
 
   leave : (p client : ℕ) (name : List ℕ) → IsNode n p → move.step ≡ Leave p client name → AllAscend n start (moves ++ move ∷ [])
   leave p client name within step =
-      let event = GivenBack client name in
+      let event = acts.Leave client name in
       let here : events_at p move.step ≡ event ∷ [] = ap (events_at p) step ∙ at_node p event in
       let went = moved nodes_laws n start moves move old.nodes nodes' old.ends run.ends.1 p event within here in
       let turn = leave_turn (old.nodes p) (nodes' p) client name move.sends move.marks went.happened in
@@ -250,7 +250,7 @@ module _ (nodes_laws : LawsOfNodes) (laws : LawsOfRuns) (n start : ℕ) (count :
 
   cancel : (p client : ℕ) (name : List ℕ) → IsNode n p → move.step ≡ Cancel p client name → AllAscend n start (moves ++ move ∷ [])
   cancel p client name within step =
-      let event = GivenUp client name in
+      let event = acts.Cancel client name in
       let here : events_at p move.step ≡ event ∷ [] = ap (events_at p) step ∙ at_node p event in
       let went = moved nodes_laws n start moves move old.nodes nodes' old.ends run.ends.1 p event within here in
       let turn = cancel_turn (old.nodes p) (nodes' p) client name move.sends move.marks went.happened in
@@ -263,9 +263,9 @@ module _ (nodes_laws : LawsOfNodes) (laws : LawsOfRuns) (n start : ℕ) (count :
   -- to forget changes nothing of the clients
   forget : (p : ℕ) → IsNode n p → move.step ≡ Forget p → AllAscend n start (moves ++ move ∷ [])
   forget p within step =
-      let here : events_at p move.step ≡ Forgot ∷ [] = ap (events_at p) step ∙ at_node p Forgot in
-      let went = moved nodes_laws n start moves move old.nodes nodes' old.ends run.ends.1 p Forgot within here in
-      by_nobody (each_then nodes_laws n old.nodes nodes' move p Forgot went old.each tt)
+      let here : events_at p move.step ≡ acts.Forget ∷ [] = ap (events_at p) step ∙ at_node p acts.Forget in
+      let went = moved nodes_laws n start moves move old.nodes nodes' old.ends run.ends.1 p acts.Forget within here in
+      by_nobody (each_then nodes_laws n old.nodes nodes' move p acts.Forget went old.each tt)
       (λ client. forgot_untouched n client move.sends move.marks old.nodes nodes' p went.others went.happened)
 
   -- ---- One more move

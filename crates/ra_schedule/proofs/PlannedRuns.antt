@@ -13,7 +13,7 @@ use Rattle.ra_node.specs.Resource.{Resource, use_of, IsBusy}
 use Rattle.ra_node.specs.Resource.Use.{WaitsBy}
 use Rattle.ra_node.specs.Node.{NodeState, opening_node, resource_at}
 use Rattle.ra_node.specs.Events.{Event, IsNamed, name_of_event}
-use Rattle.ra_node.specs.Events.Event.{Ask as AskedFor, Leave as GivenBack, Receive as Received}
+use Rattle.ra_node.specs.Events.{Event as acts}
 use Rattle.ra_node.proofs.Updates.{received_turn}
 use Rattle.ra_table.specs.Table.{LockTable, TableRun}
 use Rattle.ra_world.specs.declared.step.Step.{Step}
@@ -187,7 +187,7 @@ module _ (nodes_laws : LawsOfNodes) (laws : LawsOfRuns) (script : ScriptState) (
   deliver : (message : Sent) → IsNode n (to_of message) → move.step ≡ Deliver message → AllPlanned script next new.nodes
   deliver message at step =
       let p = to_of message in
-      let event = Received message in
+      let event = acts.Receive message in
       let here : events_at p move.step ≡ event ∷ [] = ap (events_at p) step ∙ at_node p event in
       let went = moved nodes_laws n 0 moves move old.nodes new.nodes old.ends new.ends p event at here in
       nobody_takes_part p event tt at here (λ client. ap (steps_in client) step) (λ client asks. subst (Asks client) step asks)
@@ -199,7 +199,7 @@ module _ (nodes_laws : LawsOfNodes) (laws : LawsOfRuns) (script : ScriptState) (
   by_op client who (Lock name mode) at_it its step free =
       let p = who.node in
       let at = within client who at_it in
-      let event = AskedFor client name mode in
+      let event = acts.Ask client name mode in
       let here : events_at p move.step ≡ event ∷ [] = ap (events_at p) step ∙ at_node p event in
       let went = moved nodes_laws n 0 moves move old.nodes new.nodes old.ends new.ends p event at here in
       let turn = ask_turn (old.nodes p) (new.nodes p) client name mode move.sends move.marks went.happened in
@@ -225,7 +225,7 @@ module _ (nodes_laws : LawsOfNodes) (laws : LawsOfRuns) (script : ScriptState) (
   by_op client who (Unlock name) at_it its step free =
       let p = who.node in
       let at = within client who at_it in
-      let event = GivenBack client name in
+      let event = acts.Leave client name in
       let here : events_at p move.step ≡ event ∷ [] = ap (events_at p) step ∙ at_node p event in
       let went = moved nodes_laws n 0 moves move old.nodes new.nodes old.ends new.ends p event at here in
       let turn = leave_turn (old.nodes p) (new.nodes p) client name move.sends move.marks went.happened in

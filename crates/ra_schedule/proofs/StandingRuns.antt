@@ -16,7 +16,7 @@ use Rattle.ra_node.specs.Resource.{Resource, IsBusy, held_entry, use_of, clients
 use Rattle.ra_node.specs.Turns.{AskTurn, LeaveTurn, CancelTurn}
 use Rattle.ra_node.specs.Node.{NodeState, opening_node, resource_at, IsConsistentNode}
 use Rattle.ra_node.specs.Events.{Event, IsNamed, name_of_event, NodeEvent, ForgetEvent, IsForThisNode}
-use Rattle.ra_node.specs.Events.Event.{Ask as AskedFor, Leave as GivenBack, Cancel as GivenUp, Receive as Received}
+use Rattle.ra_node.specs.Events.{Event as acts}
 use Rattle.ra_node.specs.Carried.{MarksLead}
 use Rattle.ra_node.proofs.Lookups.{nothing_met, resource_changed}
 use Rattle.ra_node.proofs.Updates.{received_turn}
@@ -227,19 +227,19 @@ module _ (laws : LawsOfNodes) (n : ℕ) (nodes nodes' : ℕ → NodeState) (move
 
 -- the turn of an event, at the resources before and after it
 pub ask_turn : (old new : NodeState) (client : ℕ) (name : List ℕ) (mode : Mode) (sends : List Sent) (marks : List Mark)
-    → NodeEvent old (AskedFor client name mode) sends marks new → AskTurn (resource_at old name) client mode sends marks (resource_at new name)
+    → NodeEvent old (acts.Ask client name mode) sends marks new → AskTurn (resource_at old name) client mode sends marks (resource_at new name)
 ask_turn old new client name mode sends marks e =
     subst (λ (x : Resource). AskTurn (resource_at old name) client mode sends marks x)
     (sym (ap (λ (s : NodeState). resource_at s name) e.new_is ∙ resource_changed old name e.resource)) e.turn
 
 pub leave_turn : (old new : NodeState) (client : ℕ) (name : List ℕ) (sends : List Sent) (marks : List Mark)
-    → NodeEvent old (GivenBack client name) sends marks new → LeaveTurn (resource_at old name) client sends marks (resource_at new name)
+    → NodeEvent old (acts.Leave client name) sends marks new → LeaveTurn (resource_at old name) client sends marks (resource_at new name)
 leave_turn old new client name sends marks e =
     subst (λ (x : Resource). LeaveTurn (resource_at old name) client sends marks x)
     (sym (ap (λ (s : NodeState). resource_at s name) e.new_is ∙ resource_changed old name e.resource)) e.turn
 
 pub cancel_turn : (old new : NodeState) (client : ℕ) (name : List ℕ) (sends : List Sent) (marks : List Mark)
-    → NodeEvent old (GivenUp client name) sends marks new → CancelTurn (resource_at old name) client sends marks (resource_at new name)
+    → NodeEvent old (acts.Cancel client name) sends marks new → CancelTurn (resource_at old name) client sends marks (resource_at new name)
 cancel_turn old new client name sends marks e =
     subst (λ (x : Resource). CancelTurn (resource_at old name) client sends marks x)
     (sym (ap (λ (s : NodeState). resource_at s name) e.new_is ∙ resource_changed old name e.resource)) e.turn
@@ -279,7 +279,7 @@ module _ (nodes_laws : LawsOfNodes) (laws : LawsOfRuns) (script : ScriptState) (
   deliver message under_way step =
       let p = to_of message in
       let between = laws.between_nodes n 0 moves message fit.count before under_way in
-      let event = Received message in
+      let event = acts.Receive message in
       let here : events_at p move.step ≡ event ∷ [] = ap (events_at p) step ∙ at_node p event in
       let went = moved nodes_laws n 0 moves move old.nodes nodes' old.ends run.ends.1 p event between.0 here in
       let there = old.each p between.0 in
@@ -349,7 +349,7 @@ module _ (nodes_laws : LawsOfNodes) (laws : LawsOfRuns) (script : ScriptState) (
       let p = who.node in
       let c = is_client script client who fit at_it in
       let within : IsNode n p = (c.first, c.last) in
-      let event = AskedFor client name mode in
+      let event = acts.Ask client name mode in
       let here : events_at p move.step ≡ event ∷ [] = ap (events_at p) step ∙ at_node p event in
       let went = moved nodes_laws n 0 moves move old.nodes nodes' old.ends run.ends.1 p event within here in
       let turn = ask_turn (old.nodes p) (nodes' p) client name mode move.sends move.marks went.happened in
@@ -375,7 +375,7 @@ module _ (nodes_laws : LawsOfNodes) (laws : LawsOfRuns) (script : ScriptState) (
       let p = who.node in
       let c = is_client script client who fit at_it in
       let within : IsNode n p = (c.first, c.last) in
-      let event = GivenBack client name in
+      let event = acts.Leave client name in
       let here : events_at p move.step ≡ event ∷ [] = ap (events_at p) step ∙ at_node p event in
       let went = moved nodes_laws n 0 moves move old.nodes nodes' old.ends run.ends.1 p event within here in
       let turn = leave_turn (old.nodes p) (nodes' p) client name move.sends move.marks went.happened in

@@ -15,7 +15,7 @@ use Rattle.ra_node.specs.Resource.{Resource}
 use Rattle.ra_node.specs.Turns.{request_marks, next_entry, EntersBy, AskTurn, Leaves, Withdraws, EndTurn, LeaveTurn, CancelTurn, ReceiveTurn}
 use Rattle.ra_node.specs.Node.{NodeState, resource_at, IsConsistentNode}
 use Rattle.ra_node.specs.Events.{Event, Happening, IsNamed, name_of_event, NodeEvent, NodeEvents}
-use Rattle.ra_node.specs.Events.Event.{Ask as AskedFor, Leave as GivenBack, Cancel as GivenUp, Receive as Received, Forget as Forgot}
+use Rattle.ra_node.specs.Events.{Event as acts}
 use Rattle.ra_node.proofs.HandOverStep.{handed_step, handed_marks}
 use Rattle.ra_node.proofs.Lookups.{same_or_apart}
 use Rattle.ra_node.proofs.Updates.{updated_here, received_turn}
@@ -84,18 +84,18 @@ request_met before after sends marks from to name mode seq turn = elim turn.step
 -- the resource of a name that an event is about
 raises_here : (old new : NodeState) (event : Event) (sends : List Message) (marks : List Mark) → NodeEvent old event sends marks new → IsNamed event
     → (resource_at old (name_of_event event)).state.highest ≤ (resource_at new (name_of_event event)).state.highest
-raises_here old new (AskedFor client name mode) sends marks event named =
+raises_here old new (acts.Ask client name mode) sends marks event named =
     subst (λ (r : Resource). (resource_at old name).state.highest ≤ r.state.highest) (sym (updated_here old new name event.resource (inr event.new_is)))
     (ask_raises (resource_at old name) event.resource sends marks client mode event.turn)
-raises_here old new (GivenBack client name) sends marks event named =
+raises_here old new (acts.Leave client name) sends marks event named =
     subst (λ (r : Resource). (resource_at old name).state.highest ≤ r.state.highest) (sym (updated_here old new name event.resource (inr event.new_is)))
     (leave_raises (resource_at old name) event.resource sends marks client event.turn)
-raises_here old new (GivenUp client name) sends marks event named =
+raises_here old new (acts.Cancel client name) sends marks event named =
     subst (λ (r : Resource). (resource_at old name).state.highest ≤ r.state.highest) (sym (updated_here old new name event.resource (inr event.new_is)))
     (cancel_raises (resource_at old name) event.resource sends marks client event.turn)
-raises_here old new (Received message) sends marks event named =
+raises_here old new (acts.Receive message) sends marks event named =
     receive_raises (resource_at old (name_of message)) (resource_at new (name_of message)) sends marks message (received_turn old new message sends marks event)
-raises_here old new Forgot sends marks event named = absurd named
+raises_here old new acts.Forget sends marks event named = absurd named
 
 named_raises : (old new : NodeState) (event : Event) (sends : List Message) (marks : List Mark) → NodeEvent old event sends marks new → IsNamed event → (name : List ℕ)
     → (resource_at old name).state.highest ≤ (resource_at new name).state.highest
@@ -106,11 +106,11 @@ named_raises old new event sends marks happened named name = elim (same_or_apart
 
 pub event_raises : (old new : NodeState) (event : Event) (sends : List Message) (marks : List Mark) → NodeEvent old event sends marks new → (name : List ℕ)
     → (resource_at old name).state.highest ≤ (resource_at new name).state.highest
-event_raises old new (AskedFor client name mode) sends marks happened q = named_raises old new (AskedFor client name mode) sends marks happened tt q
-event_raises old new (GivenBack client name) sends marks happened q = named_raises old new (GivenBack client name) sends marks happened tt q
-event_raises old new (GivenUp client name) sends marks happened q = named_raises old new (GivenUp client name) sends marks happened tt q
-event_raises old new (Received message) sends marks happened q = named_raises old new (Received message) sends marks happened tt q
-event_raises old new Forgot sends marks happened q = omega (arith, ap (λ (r : Resource). r.state.highest) (happened.resources q))
+event_raises old new (acts.Ask client name mode) sends marks happened q = named_raises old new (acts.Ask client name mode) sends marks happened tt q
+event_raises old new (acts.Leave client name) sends marks happened q = named_raises old new (acts.Leave client name) sends marks happened tt q
+event_raises old new (acts.Cancel client name) sends marks happened q = named_raises old new (acts.Cancel client name) sends marks happened tt q
+event_raises old new (acts.Receive message) sends marks happened q = named_raises old new (acts.Receive message) sends marks happened tt q
+event_raises old new acts.Forget sends marks happened q = omega (arith, ap (λ (r : Resource). r.state.highest) (happened.resources q))
 
 pub events_raise : (hs : List Happening) (old new : NodeState) → NodeEvents old hs new → (name : List ℕ) → (resource_at old name).state.highest ≤ (resource_at new name).state.highest
 events_raise [] old new same name = omega (arith, ap (λ (x : NodeState). (resource_at x name).state.highest) same)
@@ -124,7 +124,7 @@ arrived from to name mode seq [] old new events at = absurd (omega (arith, at.1)
 arrived from to name mode seq (m ∷ ms) old new events (zero, lt, is) =
     let message = Request from to name mode seq in
     let parts = events_split (happens to m) (happened_at to ms) old new events in
-    let here = happens_here to m (Received message) (ap (events_at to) is ∙ at_node to (Received message)) in
+    let here = happens_here to m (acts.Receive message) (ap (events_at to) is ∙ at_node to (acts.Receive message)) in
     let one = subst (λ (hs : List Happening). NodeEvents old hs parts.0) here parts.1 in
     let met = request_met (resource_at old name) (resource_at one.0 name) m.sends m.marks from to name mode seq (received_turn old one.0 message m.sends m.marks one.1) in
     omega (arith, met, ap (λ (x : NodeState). (resource_at x name).state.highest) one.2, events_raise (happened_at to ms) parts.0 new parts.2 name)
@@ -183,8 +183,8 @@ module _ (At : ℕ → Type 0) (e : Entry) where
         subst (λ (r : List ℕ). e.stamp.seq ≤ (resource_at old r).state.highest) (sym same ∙ there.name_is) (met (subst At there.me_is here))
 
     pub event_above : (event : Event) → NodeEvent old event sends marks new → All (IsAbove At e) marks
-    event_above (AskedFor client name mode) asked = ask_above (resource_at old name) asked.resource sends marks (low name) client mode asked.turn
-    event_above (GivenBack client name) left = leave_above (resource_at old name) left.resource sends marks (low name) client left.turn
-    event_above (GivenUp client name) cancelled = cancel_above (resource_at old name) cancelled.resource sends marks (low name) client cancelled.turn
-    event_above Forgot forgot = All-same (IsAbove At e) marks [] forgot.marks_are (All-nil (IsAbove At e))
-    event_above (Received message) received = receive_above (resource_at old (name_of message)) received.resource sends marks (low (name_of message)) message received.turn
+    event_above (acts.Ask client name mode) asked = ask_above (resource_at old name) asked.resource sends marks (low name) client mode asked.turn
+    event_above (acts.Leave client name) left = leave_above (resource_at old name) left.resource sends marks (low name) client left.turn
+    event_above (acts.Cancel client name) cancelled = cancel_above (resource_at old name) cancelled.resource sends marks (low name) client cancelled.turn
+    event_above acts.Forget forgot = All-same (IsAbove At e) marks [] forgot.marks_are (All-nil (IsAbove At e))
+    event_above (acts.Receive message) received = receive_above (resource_at old (name_of message)) received.resource sends marks (low (name_of message)) message received.turn

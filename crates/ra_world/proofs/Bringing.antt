@@ -4,12 +4,12 @@ use Rattle.ra_stamp.specs.declared.entry.Mark.{Mark}
 use Rattle.ra_stamp.specs.declared.message.Message.{Message}
 use Rattle.ra_node.specs.Node.{NodeState}
 use Rattle.ra_node.specs.Events.{NodeEvent, ReceiveEvent}
-use Rattle.ra_node.specs.Events.Event.{Receive as Received}
+use Rattle.ra_node.specs.Events.{Event as acts}
 use Rattle.ra_node.specs.Carried.{replies_at_most, entries_at_most}
 use Rattle.ra_world.specs.StepLog.{LogState, HasRoom}
 
 -- for the most that comes of it
-pub fits : ((old new : NodeState) (message : Message) (sends : List Message) (marks : List Mark) → NodeEvent old (Received message) sends marks new
+pub fits : ((old new : NodeState) (message : Message) (sends : List Message) (marks : List Mark) → NodeEvent old (acts.Receive message) sends marks new
     → (length sends ≤ replies_at_most message) × (length marks ≤ entries_at_most message))
     → (s : NodeState) (message : Message) (spare : ℕ) (log : LogState) → replies_at_most message ≤ spare → HasRoom log (entries_at_most message)
     → (sends : List Message) (marks : List Mark) (new : NodeState) → ReceiveEvent s message sends marks new → (length sends ≤ spare) × HasRoom log (length marks)

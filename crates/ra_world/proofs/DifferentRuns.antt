@@ -13,7 +13,7 @@ use Rattle.ra_node.specs.Resource.{Resource}
 use Rattle.ra_node.specs.Turns.{AskTurn, LeaveTurn, CancelTurn, ReceiveTurn}
 use Rattle.ra_node.specs.Node.{NodeState, opening_node, resource_at}
 use Rattle.ra_node.specs.Events.{Event, Happening, IsNamed, name_of_event, NodeEvent, NodeEvents, IsForThisNode}
-use Rattle.ra_node.specs.Events.Event.{Ask as AskedFor, Leave as GivenBack, Cancel as GivenUp, Receive as Received, Forget as Forgot}
+use Rattle.ra_node.specs.Events.{Event as acts}
 use Rattle.ra_node.specs.Carried.{IsSend}
 use Rattle.ra_world.specs.Below.{LawsBelow}
 use Rattle.ra_world.specs.declared.step.Step.{Step}
@@ -146,7 +146,7 @@ module _ (laws : LawsBelow) (n start : ℕ) where
     known_by_ask : (p client : ℕ) (name : List ℕ) (mode : Mode) → IsNode n p → (after : After (Ask p client name mode)) → Known n start (ms ++ by (Ask p client name mode) ∷ []) after
     known_by_ask p client name mode within after =
         let m = by (Ask p client name mode) in
-        let event = AskedFor client name mode in
+        let event = acts.Ask client name mode in
         let here = at_node p event in
         let did = happened ms m before after known p within event here tt in
         let turn : AskTurn (resource_at (before.nodes p) name) client mode sends marks (resource_at (after.nodes p) name) =
@@ -159,7 +159,7 @@ module _ (laws : LawsBelow) (n start : ℕ) where
     known_by_leave : (p client : ℕ) (name : List ℕ) → IsNode n p → (after : After (Leave p client name)) → Known n start (ms ++ by (Leave p client name) ∷ []) after
     known_by_leave p client name within after =
         let m = by (Leave p client name) in
-        let event = GivenBack client name in
+        let event = acts.Leave client name in
         let here = at_node p event in
         let did = happened ms m before after known p within event here tt in
         let turn : LeaveTurn (resource_at (before.nodes p) name) client sends marks (resource_at (after.nodes p) name) =
@@ -172,7 +172,7 @@ module _ (laws : LawsBelow) (n start : ℕ) where
     known_by_cancel : (p client : ℕ) (name : List ℕ) → IsNode n p → (after : After (Cancel p client name)) → Known n start (ms ++ by (Cancel p client name) ∷ []) after
     known_by_cancel p client name within after =
         let m = by (Cancel p client name) in
-        let event = GivenUp client name in
+        let event = acts.Cancel client name in
         let here = at_node p event in
         let did = happened ms m before after known p within event here tt in
         let turn : CancelTurn (resource_at (before.nodes p) name) client sends marks (resource_at (after.nodes p) name) =
@@ -185,10 +185,10 @@ module _ (laws : LawsBelow) (n start : ℕ) where
     known_by_forget : (p : ℕ) → IsNode n p → (after : After (Forget p)) → Known n start (ms ++ by (Forget p) ∷ []) after
     known_by_forget p within after =
         let m = by (Forget p) in
-        let here = at_node p Forgot in
-        let did = happened ms m before after known p within Forgot here tt in
-        known_after ms m before after known refl (sent_between ms m before after known p within Forgot here tt) before.bag refl
-        (said_by_forget n before.nodes after.nodes p before.bag (sent_by ms) sends marks (λ k at apart. by_events ms m before after known k [] at (only_at p k m.step Forgot here apart)) did known.said)
+        let here = at_node p acts.Forget in
+        let did = happened ms m before after known p within acts.Forget here tt in
+        known_after ms m before after known refl (sent_between ms m before after known p within acts.Forget here tt) before.bag refl
+        (said_by_forget n before.nodes after.nodes p before.bag (sent_by ms) sends marks (λ k at apart. by_events ms m before after known k [] at (only_at p k m.step acts.Forget here apart)) did known.said)
 
     known_by_deliver : (message : Message) → IsUnderWay ms message → (after : After (Deliver message)) → Known n start (ms ++ by (Deliver message) ∷ []) after
     known_by_deliver message was after =
@@ -196,7 +196,7 @@ module _ (laws : LawsBelow) (n start : ℕ) where
         let taken = was_under_way laws n start ms before message was in
         let p = to_of message in
         let within = taken.traffic.to in
-        let event = Received message in
+        let event = acts.Receive message in
         let name = name_of message in
         let here = at_node p event in
         let there = before.invariant.each p within in

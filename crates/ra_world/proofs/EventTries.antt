@@ -20,7 +20,7 @@ use Rattle.ra_node.specs.Resource.{IsBusy, Holds, IsKeptWaiting}
 use Rattle.ra_node.specs.Turns.{MayAsk}
 use Rattle.ra_node.specs.Memory.{BringsNothing}
 use Rattle.ra_node.specs.Events.{Event, NodeEvent}
-use Rattle.ra_node.specs.Events.Event.{Ask as AskedFor, Leave as GivenBack, Cancel as GivenUp, Receive as Received, Forget as Forgot}
+use Rattle.ra_node.specs.Events.{Event as acts}
 use Rattle.ra_node.specs.Node.{NodeState, resource_at}
 use Rattle.ra_world.specs.declared.step.Step.{Step}
 use Rattle.ra_world.specs.declared.step.Step.TheVariants.{Ask, Leave, Cancel, Deliver, Forget}
@@ -45,35 +45,35 @@ pub ask_refused : (s : NodeState) (moves : List Move) (client : ℕ) (name : Lis
     → (e ≡ ask.Busy → IsBusy (resource_at s name) client)
     → (e ≡ ask.Exhausted → (IsBusy (resource_at s name) client → ⊥) × ((resource_at s name).state.highest ≡ greatest_number))
     → (e ≡ ask.Memory → MayAsk (resource_at s name) client)
-    → IsEventRefusal s moves (AskedFor client name mode) cause
+    → IsEventRefusal s moves (acts.Ask client name mode) cause
 ask_refused s moves client name mode ask.Busy cause is busy exhausted may =
-    subst (IsEventRefusal s moves (AskedFor client name mode)) (sym is) (busy refl)
+    subst (IsEventRefusal s moves (acts.Ask client name mode)) (sym is) (busy refl)
 ask_refused s moves client name mode ask.Exhausted cause is busy exhausted may =
-    subst (IsEventRefusal s moves (AskedFor client name mode)) (sym is) (exhausted refl)
+    subst (IsEventRefusal s moves (acts.Ask client name mode)) (sym is) (exhausted refl)
 ask_refused s moves client name mode ask.Memory cause is busy exhausted may =
-    subst (IsEventRefusal s moves (AskedFor client name mode)) (sym is) (may refl)
+    subst (IsEventRefusal s moves (acts.Ask client name mode)) (sym is) (may refl)
 
 -- the refusal of a leave
 pub leave_refused : (s : NodeState) (moves : List Move) (client : ℕ) (name : List ℕ) (e : LeaveError) (cause : StepError)
     → cause ≡ refusal_of_leave e
     → (e ≡ leave.NotHeld → (entry : Entry) → Holds (resource_at s name) client entry → ⊥)
     → (e ≡ leave.Memory → (entry : Entry) × Holds (resource_at s name) client entry)
-    → IsEventRefusal s moves (GivenBack client name) cause
+    → IsEventRefusal s moves (acts.Leave client name) cause
 leave_refused s moves client name leave.NotHeld cause is free may =
-    subst (IsEventRefusal s moves (GivenBack client name)) (sym is) (free refl)
+    subst (IsEventRefusal s moves (acts.Leave client name)) (sym is) (free refl)
 leave_refused s moves client name leave.Memory cause is free may =
-    subst (IsEventRefusal s moves (GivenBack client name)) (sym is) (may refl)
+    subst (IsEventRefusal s moves (acts.Leave client name)) (sym is) (may refl)
 
 -- the refusal of a cancel
 pub cancel_refused : (s : NodeState) (moves : List Move) (client : ℕ) (name : List ℕ) (e : CancelError) (cause : StepError)
     → cause ≡ refusal_of_cancel e
     → (e ≡ cancel.NotWaiting → IsKeptWaiting (resource_at s name) client → ⊥)
     → (e ≡ cancel.Memory → IsKeptWaiting (resource_at s name) client)
-    → IsEventRefusal s moves (GivenUp client name) cause
+    → IsEventRefusal s moves (acts.Cancel client name) cause
 cancel_refused s moves client name cancel.NotWaiting cause is free may =
-    subst (IsEventRefusal s moves (GivenUp client name)) (sym is) (free refl)
+    subst (IsEventRefusal s moves (acts.Cancel client name)) (sym is) (free refl)
 cancel_refused s moves client name cancel.Memory cause is free may =
-    subst (IsEventRefusal s moves (GivenUp client name)) (sym is) (may refl)
+    subst (IsEventRefusal s moves (acts.Cancel client name)) (sym is) (may refl)
 
 -- ---- A step that is tried at the node of a place
 
@@ -123,17 +123,17 @@ module _
         → GoesOn n start moves (Ask node client name mode)
         ↔ (((1 ≤ node) × (node ≤ n)) × MayAsk (resource_at (nodes node) name) client))
         → (client : ℕ) (name : List ℕ) (mode : Mode) → step ≡ Ask i client name mode
-        → TriesAt step (AskedFor client name mode) old kept r new kept'
+        → TriesAt step (acts.Ask client name mode) old kept r new kept'
         → Tries w (Ask i client name mode) r (shown start (set nodes place new) kept'.log.moves)
         × Keeps start (set nodes place new) kept'.under_way.items kept'.log.moves
     asked allowed client name mode this tried =
-        let event = AskedFor client name mode in
+        let event = acts.Ask client name mode in
         let tries = subst (λ (s : Step). TriesAt s event old kept r new kept') this tried in (
           tried_at start nodes kept kept' place w (Ask i client name mode) event old new r is at why tries,
           kept_at (Ask i client name mode) event r (λ sends marks. number_of nodes place i number within) (here i event) (λ left all. all) tries,
         )
       where
-        why : (cause : StepError) → IsEventRefusal old kept.log.moves (AskedFor client name mode) cause
+        why : (cause : StepError) → IsEventRefusal old kept.log.moves (acts.Ask client name mode) cause
             → HasCause (length nodes) start kept.log.moves (Ask i client name mode) cause
             ⊎ IsShort (shown start nodes kept.log.moves) (Ask i client name mode) cause
         why NoNode refused = absurd refused
@@ -158,17 +158,17 @@ module _
         → GoesOn n start moves (Leave node client name)
         ↔ (((1 ≤ node) × (node ≤ n)) × ((entry : Entry) × Holds (resource_at (nodes node) name) client entry)))
         → (client : ℕ) (name : List ℕ) → step ≡ Leave i client name
-        → TriesAt step (GivenBack client name) old kept r new kept'
+        → TriesAt step (acts.Leave client name) old kept r new kept'
         → Tries w (Leave i client name) r (shown start (set nodes place new) kept'.log.moves)
         × Keeps start (set nodes place new) kept'.under_way.items kept'.log.moves
     left allowed client name this tried =
-        let event = GivenBack client name in
+        let event = acts.Leave client name in
         let tries = subst (λ (s : Step). TriesAt s event old kept r new kept') this tried in (
           tried_at start nodes kept kept' place w (Leave i client name) event old new r is at why tries,
           kept_at (Leave i client name) event r (λ sends marks. number_of nodes place i number within) (here i event) (λ left all. all) tries,
         )
       where
-        why : (cause : StepError) → IsEventRefusal old kept.log.moves (GivenBack client name) cause
+        why : (cause : StepError) → IsEventRefusal old kept.log.moves (acts.Leave client name) cause
             → HasCause (length nodes) start kept.log.moves (Leave i client name) cause
             ⊎ IsShort (shown start nodes kept.log.moves) (Leave i client name) cause
         why NoNode refused = absurd refused
@@ -192,17 +192,17 @@ module _
         → GoesOn n start moves (Cancel node client name)
         ↔ (((1 ≤ node) × (node ≤ n)) × IsKeptWaiting (resource_at (nodes node) name) client))
         → (client : ℕ) (name : List ℕ) → step ≡ Cancel i client name
-        → TriesAt step (GivenUp client name) old kept r new kept'
+        → TriesAt step (acts.Cancel client name) old kept r new kept'
         → Tries w (Cancel i client name) r (shown start (set nodes place new) kept'.log.moves)
         × Keeps start (set nodes place new) kept'.under_way.items kept'.log.moves
     given_up allowed client name this tried =
-        let event = GivenUp client name in
+        let event = acts.Cancel client name in
         let tries = subst (λ (s : Step). TriesAt s event old kept r new kept') this tried in (
           tried_at start nodes kept kept' place w (Cancel i client name) event old new r is at why tries,
           kept_at (Cancel i client name) event r (λ sends marks. number_of nodes place i number within) (here i event) (λ left all. all) tries,
         )
       where
-        why : (cause : StepError) → IsEventRefusal old kept.log.moves (GivenUp client name) cause
+        why : (cause : StepError) → IsEventRefusal old kept.log.moves (acts.Cancel client name) cause
             → HasCause (length nodes) start kept.log.moves (Cancel i client name) cause
             ⊎ IsShort (shown start nodes kept.log.moves) (Cancel i client name) cause
         why NoNode refused = absurd refused
@@ -221,16 +221,16 @@ module _
     -- a node forgets
     pub forgot :
         ((n start : ℕ) (moves : List Move) → IsNodeNumber n → IsRun n start moves → (node : ℕ) → GoesOn n start moves (Forget node) ↔ ((1 ≤ node) × (node ≤ n)))
-        → step ≡ Forget i → TriesAt step Forgot old kept r new kept'
+        → step ≡ Forget i → TriesAt step acts.Forget old kept r new kept'
         → Tries w (Forget i) r (shown start (set nodes place new) kept'.log.moves)
         × Keeps start (set nodes place new) kept'.under_way.items kept'.log.moves
     forgot allowed this tried =
-        let tries = subst (λ (s : Step). TriesAt s Forgot old kept r new kept') this tried in (
-          tried_at start nodes kept kept' place w (Forget i) Forgot old new r is at why tries,
-          kept_at (Forget i) Forgot r (λ sends marks. number_of nodes place i number within) (here i Forgot) (λ left all. all) tries,
+        let tries = subst (λ (s : Step). TriesAt s acts.Forget old kept r new kept') this tried in (
+          tried_at start nodes kept kept' place w (Forget i) acts.Forget old new r is at why tries,
+          kept_at (Forget i) acts.Forget r (λ sends marks. number_of nodes place i number within) (here i acts.Forget) (λ left all. all) tries,
         )
       where
-        why : (cause : StepError) → IsEventRefusal old kept.log.moves Forgot cause
+        why : (cause : StepError) → IsEventRefusal old kept.log.moves acts.Forget cause
             → HasCause (length nodes) start kept.log.moves (Forget i) cause
             ⊎ IsShort (shown start nodes kept.log.moves) (Forget i) cause
         why NoNode refused = absurd refused
@@ -248,11 +248,11 @@ module _
         → ((sends : List Message) (marks : List Mark) → IsFit (length nodes) kept.log.moves (Deliver message) sends marks)
         → ((next : List Message) → repeated_by kept.log.moves ≡ [] → TakesOne kept.under_way.items message next → TakesFirst kept.under_way.items message next)
         → to_of message ≡ i → step ≡ Deliver message
-        → TriesAt step (Received message) old kept r new kept'
+        → TriesAt step (acts.Receive message) old kept r new kept'
         → Tries w (Deliver message) r (shown start (set nodes place new) kept'.log.moves)
         × Keeps start (set nodes place new) kept'.under_way.items kept'.log.moves
     received message on fit first to this tried =
-        let event = Received message in
+        let event = acts.Receive message in
         let tries = subst (λ (s : Step). TriesAt s event old kept r new kept') this tried in (
           tried_at start nodes kept kept' place w (Deliver message) event old new r is at why tries,
           kept_at (Deliver message) event r fit
@@ -263,7 +263,7 @@ module _
         takes : (next : List Message) → TakesEqual kept.log.moves kept.under_way.items message next → TakesFirst kept.under_way.items message next
         takes next taken = elim taken [ inl it ↦ it | inr one ↦ first next one.0 one.1 ]
 
-        why : (cause : StepError) → IsEventRefusal old kept.log.moves (Received message) cause
+        why : (cause : StepError) → IsEventRefusal old kept.log.moves (acts.Receive message) cause
             → HasCause (length nodes) start kept.log.moves (Deliver message) cause
             ⊎ IsShort (shown start nodes kept.log.moves) (Deliver message) cause
         why NoNode refused = absurd refused

@@ -13,7 +13,7 @@ use Rattle.ra_automaton.specs.State.{IsOtherNode}
 use Rattle.ra_automaton.proofs.Apart.{cases_same}
 use Rattle.ra_node.specs.Node.{NodeState, opening_node}
 use Rattle.ra_node.specs.Events.{Event, Happening, NodeEvent, NodeEvents}
-use Rattle.ra_node.specs.Events.Event.{Ask as AskedFor, Leave as GivenBack, Cancel as GivenUp, Receive as Received, Forget as Forgot}
+use Rattle.ra_node.specs.Events.{Event as acts}
 use Rattle.ra_world.specs.declared.step.Step.{Step}
 use Rattle.ra_world.specs.declared.step.Step.TheVariants.{Ask, Leave, Cancel, Deliver, Lose, Repeat, Forget}
 use Rattle.ra_world.specs.Traffic.{Move, LeavesUnderWay, IsUnderWay, put_by, taken_in, taken_by, repeated_in}
@@ -303,26 +303,26 @@ module _
         → GoneBy n start happened (prefix ++ step ∷ [])
     one_on prefix (Ask node client name mode) suffix parts before =
         let step = Ask node client name mode in
-        let event = AskedFor client name mode in
+        let event = acts.Ask client name mode in
         let within = names prefix step suffix parts before in
         on_by_event prefix step suffix parts before node within event (at_node node event) (λ _ _. within)
     one_on prefix (Leave node client name) suffix parts before =
         let step = Leave node client name in
-        let event = GivenBack client name in
+        let event = acts.Leave client name in
         let within = names prefix step suffix parts before in
         on_by_event prefix step suffix parts before node within event (at_node node event) (λ _ _. within)
     one_on prefix (Cancel node client name) suffix parts before =
         let step = Cancel node client name in
-        let event = GivenUp client name in
+        let event = acts.Cancel client name in
         let within = names prefix step suffix parts before in
         on_by_event prefix step suffix parts before node within event (at_node node event) (λ _ _. within)
     one_on prefix (Forget node) suffix parts before =
         let step = Forget node in
         let within = names prefix step suffix parts before in
-        on_by_event prefix step suffix parts before node within Forgot (at_node node Forgot) (λ _ _. within)
+        on_by_event prefix step suffix parts before node within acts.Forget (at_node node acts.Forget) (λ _ _. within)
     one_on prefix (Deliver message) suffix parts before =
         let step = Deliver message in
-        let event = Received message in
+        let event = acts.Receive message in
         let was = under_way prefix step suffix parts before message (0, omega arith, refl) in
         let within = (between n start before.moves message count before.run was).0 in
         on_by_event prefix step suffix parts before (to_of message) within event (at_node (to_of message) event) (λ _ _. was)

@@ -11,7 +11,7 @@ use Rattle.ra_node.specs.Resource.{Holds, IsKeptWaiting}
 use Rattle.ra_node.specs.Turns.{MayAsk}
 use Rattle.ra_node.specs.Node.{NodeState, resource_at, IsConsistentNode}
 use Rattle.ra_node.specs.Events.{Event, Happening, NodeEvent, NodeEvents, AllowsEvent}
-use Rattle.ra_node.specs.Events.Event.{Ask as AskedFor, Leave as GivenBack, Cancel as GivenUp, Receive as Received, Forget as Forgot}
+use Rattle.ra_node.specs.Events.{Event as acts}
 use Rattle.ra_world.specs.declared.step.Step.{Step}
 use Rattle.ra_world.specs.declared.step.Step.TheVariants.{Ask, Leave, Cancel, Deliver, Lose, Repeat, Forget}
 use Rattle.ra_world.specs.Below.{LawsBelow}
@@ -76,7 +76,7 @@ module _ (laws : LawsBelow) (n start : ℕ) (ms : List Move) (nodes : ℕ → No
   pub ask_goes_on : (p client : ℕ) (name : List ℕ) (mode : Mode) → GoesOn n start ms (Ask p client name mode) ↔ (IsNode n p × MayAsk (resource_at (nodes p) name) client)
   ask_goes_on p client name mode =
       let step = Ask p client name mode in
-      let event = AskedFor client name mode in (
+      let event = acts.Ask client name mode in (
         λ on. let within = fit_of step on in (within, (laws.may_ask (nodes p) client name mode (consistent_at p within)).0 (allowed_by step p within event (at_node p event) on)),
         λ (within, may). on_by step p within event (at_node p event) (λ _ _. within) ((laws.may_ask (nodes p) client name mode (consistent_at p within)).1 may),
       )
@@ -84,7 +84,7 @@ module _ (laws : LawsBelow) (n start : ℕ) (ms : List Move) (nodes : ℕ → No
   pub leave_goes_on : (p client : ℕ) (name : List ℕ) → GoesOn n start ms (Leave p client name) ↔ (IsNode n p × ((entry : Entry) × Holds (resource_at (nodes p) name) client entry))
   leave_goes_on p client name =
       let step = Leave p client name in
-      let event = GivenBack client name in (
+      let event = acts.Leave client name in (
         λ on. let within = fit_of step on in (within, (laws.may_leave (nodes p) client name (consistent_at p within)).0 (allowed_by step p within event (at_node p event) on)),
         λ (within, holds). on_by step p within event (at_node p event) (λ _ _. within) ((laws.may_leave (nodes p) client name (consistent_at p within)).1 holds),
       )
@@ -92,7 +92,7 @@ module _ (laws : LawsBelow) (n start : ℕ) (ms : List Move) (nodes : ℕ → No
   pub cancel_goes_on : (p client : ℕ) (name : List ℕ) → GoesOn n start ms (Cancel p client name) ↔ (IsNode n p × IsKeptWaiting (resource_at (nodes p) name) client)
   cancel_goes_on p client name =
       let step = Cancel p client name in
-      let event = GivenUp client name in (
+      let event = acts.Cancel client name in (
         λ on. let within = fit_of step on in (within, (laws.may_cancel (nodes p) client name (consistent_at p within)).0 (allowed_by step p within event (at_node p event) on)),
         λ (within, kept). on_by step p within event (at_node p event) (λ _ _. within) ((laws.may_cancel (nodes p) client name (consistent_at p within)).1 kept),
       )
@@ -100,7 +100,7 @@ module _ (laws : LawsBelow) (n start : ℕ) (ms : List Move) (nodes : ℕ → No
   pub forget_goes_on : (p : ℕ) → GoesOn n start ms (Forget p) ↔ IsNode n p
   forget_goes_on p = (
     λ on. fit_of (Forget p) on,
-    λ within. on_by (Forget p) p within Forgot (at_node p Forgot) (λ _ _. within) (laws.may_forget (nodes p) (consistent_at p within)),
+    λ within. on_by (Forget p) p within acts.Forget (at_node p acts.Forget) (λ _ _. within) (laws.may_forget (nodes p) (consistent_at p within)),
   )
 
   pub deliver_goes_on : (message : Message) → GoesOn n start ms (Deliver message) ↔ IsUnderWay ms message
@@ -110,7 +110,7 @@ module _ (laws : LawsBelow) (n start : ℕ) (ms : List Move) (nodes : ℕ → No
         fit_of step,
         λ was.
             let within = (was_under_way laws n start ms before message was).traffic.to in
-            on_by step p within (Received message) (at_node p (Received message)) (λ _ _. was) (laws.may_receive (nodes p) message (consistent_at p within)),
+            on_by step p within (acts.Receive message) (at_node p (acts.Receive message)) (λ _ _. was) (laws.may_receive (nodes p) message (consistent_at p within)),
       )
 
   pub lose_goes_on : (message : Message) → GoesOn n start ms (Lose message) ↔ IsUnderWay ms message

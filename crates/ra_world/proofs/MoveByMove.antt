@@ -7,7 +7,7 @@ use Rattle.ra_stamp.specs.NodeId.{IsNodeNumber}
 use Rattle.ra_automaton.specs.State.{IsForNode}
 use Rattle.ra_node.specs.Node.{NodeState}
 use Rattle.ra_node.specs.Events.{Event, NodeEvent, IsForThisNode}
-use Rattle.ra_node.specs.Events.Event.{Ask as AskedFor, Leave as GivenBack, Cancel as GivenUp, Receive as Received, Forget as Forgot}
+use Rattle.ra_node.specs.Events.{Event as acts}
 use Rattle.ra_world.specs.declared.step.Step.{Step}
 use Rattle.ra_world.specs.declared.step.Step.TheVariants.{Ask, Leave, Cancel, Deliver, Lose, Repeat, Forget}
 use Rattle.ra_world.specs.Below.{LawsBelow}
@@ -43,20 +43,20 @@ module _ (laws : LawsBelow) (n start : ℕ) (count : IsNodeNumber n) (m : Move) 
 
   by_step : (P : Mark → Type 0) → EachEvent P → (step : Step) → m.step ≡ step → IsFit n ms step m.sends m.marks → All P m.marks
   by_step P each (Ask node client name mode) is fit =
-      let event = AskedFor client name mode in
+      let event = acts.Ask client name mode in
       by_event P each node event fit tt (subst (λ (x : Step). events_at node x ≡ event ∷ []) (sym is) (at_node node event))
   by_step P each (Leave node client name) is fit =
-      let event = GivenBack client name in
+      let event = acts.Leave client name in
       by_event P each node event fit tt (subst (λ (x : Step). events_at node x ≡ event ∷ []) (sym is) (at_node node event))
   by_step P each (Cancel node client name) is fit =
-      let event = GivenUp client name in
+      let event = acts.Cancel client name in
       by_event P each node event fit tt (subst (λ (x : Step). events_at node x ≡ event ∷ []) (sym is) (at_node node event))
   by_step P each (Forget node) is fit =
-      by_event P each node Forgot fit tt (subst (λ (x : Step). events_at node x ≡ Forgot ∷ []) (sym is) (at_node node Forgot))
+      by_event P each node acts.Forget fit tt (subst (λ (x : Step). events_at node x ≡ acts.Forget ∷ []) (sym is) (at_node node acts.Forget))
   by_step P each (Deliver message) is fit =
       let was = was_under_way laws n start ms just_before message fit in
       let p = to_of message in
-      let event = Received message in
+      let event = acts.Receive message in
       let there = just_before.invariant.each p was.traffic.to in
       let for' : IsForNode p n message = record { to = refl; from = was.traffic.from } in
       let for : IsForThisNode (just_before.nodes p) event =

@@ -8,7 +8,7 @@ use Rattle.ra_stamp.specs.declared.entry.Mark.{Mark}
 use Rattle.ra_stamp.specs.declared.entry.Mark.TheVariants.{Requested, Entered, Left, Withdrawn}
 use Rattle.ra_stamp.specs.Message.{to_of}
 use Rattle.ra_node.specs.Events.{Event, Happening}
-use Rattle.ra_node.specs.Events.Event.{Ask as AskedFor, Leave as GivenBack, Cancel as GivenUp, Receive as Received, Forget as Forgot}
+use Rattle.ra_node.specs.Events.{Event as acts}
 use Rattle.ra_world.specs.declared.step.Step.{Step}
 use Rattle.ra_world.specs.declared.step.Step.TheVariants.{Ask, Leave, Cancel, Deliver, Lose, Repeat, Forget}
 use Rattle.ra_world.specs.Traffic.{Move, sent_by, put_in, put_by, taken_in, taken_by, lost_in, lost_by, repeated_in, repeated_by}
@@ -97,13 +97,13 @@ one_node node p i e event here apart = elim (cases_same node p) [
 
 -- a step is an event at one node at most
 pub only_at : (p i : ℕ) (step : Step) (event : Event) → events_at p step ≡ event ∷ [] → i ≢ p → events_at i step ≡ []
-only_at p i (Ask node client name mode) event here apart = one_node node p i (AskedFor client name mode) event here apart
-only_at p i (Leave node client name) event here apart = one_node node p i (GivenBack client name) event here apart
-only_at p i (Cancel node client name) event here apart = one_node node p i (GivenUp client name) event here apart
-only_at p i (Deliver message) event here apart = one_node (to_of message) p i (Received message) event here apart
+only_at p i (Ask node client name mode) event here apart = one_node node p i (acts.Ask client name mode) event here apart
+only_at p i (Leave node client name) event here apart = one_node node p i (acts.Leave client name) event here apart
+only_at p i (Cancel node client name) event here apart = one_node node p i (acts.Cancel client name) event here apart
+only_at p i (Deliver message) event here apart = one_node (to_of message) p i (acts.Receive message) event here apart
 only_at p i (Lose message) event here apart = refl
 only_at p i (Repeat message) event here apart = refl
-only_at p i (Forget node) event here apart = one_node node p i Forgot event here apart
+only_at p i (Forget node) event here apart = one_node node p i acts.Forget event here apart
 
 -- a step that is an event puts no copy under way
 pub event_copies_nothing : (p : ℕ) (step : Step) (event : Event) → events_at p step ≡ event ∷ [] → repeated_in step ≡ []

@@ -16,7 +16,7 @@ use Rattle.ra_node.proofs.Endings.{AreEnded, leaves_ended, withdraws_ended}
 use Rattle.ra_node.proofs.Forgetting.{NothingElse, any_ones, slots_of, total_stays, queue_unmoved}
 use Rattle.ra_node.specs.Node.{NodeState, opening_node, resource_at, queued_count}
 use Rattle.ra_node.specs.Events.{Event, Happening, NodeEvent, NodeEvents}
-use Rattle.ra_node.specs.Events.Event.{Ask as AskedFor, Leave as GivenBack, Cancel as GivenUp, Receive as Received, Forget as Forgot}
+use Rattle.ra_node.specs.Events.{Event as acts}
 use Rattle.ra_world.specs.declared.step.Step.{Step}
 use Rattle.ra_world.specs.declared.step.Step.TheVariants.{Ask, Leave, Cancel, Deliver, Lose, Repeat, Forget}
 use Rattle.ra_world.specs.Traffic.{Move}
@@ -81,14 +81,14 @@ more_at old new name r few update =
 
 event_queues : (old new : NodeState) (event : Event) (sends : List Message) (marks : List Mark)
     → NodeEvent old event sends marks new → queued_count new ≤ queued_count old + 1
-event_queues old new (AskedFor client name mode) sends marks e =
+event_queues old new (acts.Ask client name mode) sends marks e =
     more_at old new name e.resource (ask_queues (resource_at old name) client mode sends marks e.resource e.turn) (inr e.new_is)
-event_queues old new (GivenBack client name) sends marks e =
+event_queues old new (acts.Leave client name) sends marks e =
     more_at old new name e.resource (leave_queues (resource_at old name) client sends marks e.resource e.turn) (inr e.new_is)
-event_queues old new (GivenUp client name) sends marks e =
+event_queues old new (acts.Cancel client name) sends marks e =
     more_at old new name e.resource (cancel_queues (resource_at old name) client sends marks e.resource e.turn) (inr e.new_is)
-event_queues old new Forgot sends marks e = omega (arith, total_stays NothingElse (λ r. length r.queue) queue_unmoved old new sends marks e (any_ones (slots_of old)))
-event_queues old new (Received message) sends marks e =
+event_queues old new acts.Forget sends marks e = omega (arith, total_stays NothingElse (λ r. length r.queue) queue_unmoved old new sends marks e (any_ones (slots_of old)))
+event_queues old new (acts.Receive message) sends marks e =
     more_at old new _ e.resource (omega (arith, ap length e.turn.queue_is)) (receive_updates old new message sends marks e)
 
 events_queue : (hs : List Happening) (old new : NodeState) → NodeEvents old hs new → queued_count new ≤ queued_count old + length hs
@@ -125,11 +125,11 @@ nowhere step none first (suc n) =
     omega (arith, none first, nowhere step none (first + 1) n, sum_by-cons (λ (i : ℕ). length (events_at i step)) first (range_with_len (first + 1) n))
 
 one_event : (step : Step) (first n : ℕ) → sum_by (λ i. length (events_at i step)) (range_with_len first n) ≤ 1
-one_event (Ask node client name mode) first n = one_at_most node (AskedFor client name mode) first n
-one_event (Leave node client name) first n = one_at_most node (GivenBack client name) first n
-one_event (Cancel node client name) first n = one_at_most node (GivenUp client name) first n
-one_event (Forget node) first n = one_at_most node Forgot first n
-one_event (Deliver message) first n = one_at_most (to_of message) (Received message) first n
+one_event (Ask node client name mode) first n = one_at_most node (acts.Ask client name mode) first n
+one_event (Leave node client name) first n = one_at_most node (acts.Leave client name) first n
+one_event (Cancel node client name) first n = one_at_most node (acts.Cancel client name) first n
+one_event (Forget node) first n = one_at_most node acts.Forget first n
+one_event (Deliver message) first n = one_at_most (to_of message) (acts.Receive message) first n
 one_event (Lose message) first n = omega (arith, nowhere (Lose message) (λ _. refl) first n)
 one_event (Repeat message) first n = omega (arith, nowhere (Repeat message) (λ _. refl) first n)
 

@@ -19,7 +19,7 @@ use Rattle.ra_node.proofs.Updates.{IsUpdate, event_updates, updated_here}
 use Rattle.ra_node.specs.Resource.{Resource, unmet, use_of, waiting_at}
 use Rattle.ra_node.specs.Node.{NodeState, opening_node, resource_at, waiting_count}
 use Rattle.ra_node.specs.Events.{Event, Happening, IsNamed, name_of_event, NodeEvent, NodeEvents, IsForThisNode}
-use Rattle.ra_node.specs.Events.Event.{Receive as Received}
+use Rattle.ra_node.specs.Events.{Event as acts}
 use Rattle.ra_node.specs.Carried.{IsSend, MarksLead}
 use Rattle.ra_table.specs.Table.{LockTable, empty_table, TableSteps, TableRun}
 use Rattle.ra_world.specs.Below.{LawsBelow}
@@ -160,7 +160,7 @@ module _ (laws : LawsBelow) {Lossy Copied : Type 0} (n start : ℕ) (ms : List M
       let one = subst (λ (hs : List Happening). NodeEvents parts.0 hs end.0) (happens_here p m event here) parts.2 in
       (one.0, subst (λ (x : NodeState). NodeEvent x event m.sends m.marks one.0) same one.1)
 
-  module _ (new : NodeState) (happened : NodeEvent (before.nodes p) event m.sends m.marks new) (for : IsForThisNode (before.nodes p) event) (numbered : (message : Message) → event ≡ Received message → 1 ≤ seq_of message) (named : IsNamed event) where
+  module _ (new : NodeState) (happened : NodeEvent (before.nodes p) event m.sends m.marks new) (for : IsForThisNode (before.nodes p) event) (numbered : (message : Message) → event ≡ acts.Receive message → 1 ≤ seq_of message) (named : IsNamed event) where
     abbrev pub name : List ℕ
     name = name_of_event event
 

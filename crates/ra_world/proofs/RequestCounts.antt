@@ -14,7 +14,7 @@ use Rattle.ra_node.proofs.Endings.{AreEnded, leaves_ended, withdraws_ended}
 use Rattle.ra_node.proofs.Forgetting.{NothingElse, any_ones, slots_of, total_stays, queue_unmoved}
 use Rattle.ra_node.specs.Node.{NodeState, opening_node, resource_at}
 use Rattle.ra_node.specs.Events.{Event, NodeEvent}
-use Rattle.ra_node.specs.Events.Event.{Ask as AskedFor, Leave as GivenBack, Cancel as GivenUp, Receive as Received, Forget as Forgot}
+use Rattle.ra_node.specs.Events.{Event as acts}
 use Rattle.ra_node.proofs.HandOverStep.{handed_marks}
 use Rattle.ra_node.proofs.Updates.{IsUpdate, receive_updates}
 use Rattle.ra_world.specs.declared.step.Step.{Step}
@@ -35,18 +35,18 @@ use Rattle.ra_world.proofs.Runs.{every_run, same_ends, prefixes}
 -- ---- Asks and cancels
 
 abbrev asks_of : Event → ℕ
-asks_of (AskedFor client name mode) = 1
-asks_of (GivenBack client name) = 0
-asks_of (GivenUp client name) = 0
-asks_of (Received message) = 0
-asks_of Forgot = 0
+asks_of (acts.Ask client name mode) = 1
+asks_of (acts.Leave client name) = 0
+asks_of (acts.Cancel client name) = 0
+asks_of (acts.Receive message) = 0
+asks_of acts.Forget = 0
 
 abbrev cancels_of : Event → ℕ
-cancels_of (AskedFor client name mode) = 0
-cancels_of (GivenBack client name) = 0
-cancels_of (GivenUp client name) = 1
-cancels_of (Received message) = 0
-cancels_of Forgot = 0
+cancels_of (acts.Ask client name mode) = 0
+cancels_of (acts.Leave client name) = 0
+cancels_of (acts.Cancel client name) = 1
+cancels_of (acts.Receive message) = 0
+cancels_of acts.Forget = 0
 
 -- ---- One turn
 
@@ -142,12 +142,12 @@ update_counts : (old new : NodeState) (name : List ℕ) (r : Resource) → IsUpd
 update_counts old new name r update marks asks cancels turn = record { made = omega (arith, turn.made, one_update queued none_queued old new name r update); few = turn.few }
 
 event_counts : (old new : NodeState) (event : Event) (sends : List Message) (marks : List Mark) → NodeEvent old event sends marks new → NodeCounts (asks_of event) (cancels_of event) old new marks
-event_counts old new (AskedFor client name mode) sends marks e = update_counts old new name e.resource (inr e.new_is) marks 1 0 (ask_counts (resource_at old name) client mode sends marks e.resource e.turn)
-event_counts old new (GivenBack client name) sends marks e = update_counts old new name e.resource (inr e.new_is) marks 0 0 (leave_counts (resource_at old name) client sends marks e.resource e.turn)
-event_counts old new (GivenUp client name) sends marks e = update_counts old new name e.resource (inr e.new_is) marks 0 1 (cancel_counts (resource_at old name) client sends marks e.resource e.turn)
-event_counts old new (Received message) sends marks e =
+event_counts old new (acts.Ask client name mode) sends marks e = update_counts old new name e.resource (inr e.new_is) marks 1 0 (ask_counts (resource_at old name) client mode sends marks e.resource e.turn)
+event_counts old new (acts.Leave client name) sends marks e = update_counts old new name e.resource (inr e.new_is) marks 0 0 (leave_counts (resource_at old name) client sends marks e.resource e.turn)
+event_counts old new (acts.Cancel client name) sends marks e = update_counts old new name e.resource (inr e.new_is) marks 0 1 (cancel_counts (resource_at old name) client sends marks e.resource e.turn)
+event_counts old new (acts.Receive message) sends marks e =
     update_counts old new (name_of message) e.resource (receive_updates old new message sends marks e) marks 0 0 (receive_counts (resource_at old (name_of message)) message sends marks e.resource e.turn)
-event_counts old new Forgot sends marks e =
+event_counts old new acts.Forget sends marks e =
     record { made = omega (arith, ap requests_in e.marks_are, ap withdrawn_in e.marks_are, total_stays NothingElse queued queue_unmoved old new sends marks e (any_ones (slots_of old))); few = omega (arith, ap withdrawn_in e.marks_are) }
 
 -- ---- One more move
@@ -207,16 +207,16 @@ module _ (laws : LawsBelow) (n start : ℕ) (ms : List Move) (step : Step) (send
 one_more : LawsBelow → (n start : ℕ) (ms : List Move) (step : Step) (sends : List Message) (marks : List Mark) → Reached (Unit {0}) (Unit {0}) n start ms → Counted n start ms
     → IsFit n ms step sends marks → ((i : ℕ) → IsNode n i → EndsAt n start (ms ++ record { step = step; sends = sends; marks = marks } ∷ []) i) → Counted n start (ms ++ record { step = step; sends = sends; marks = marks } ∷ [])
 one_more laws n start ms (Ask node client name mode) sends marks before counted fit ends =
-    by_event laws n start ms (Ask node client name mode) sends marks before counted node (AskedFor client name mode) fit (at_node node (AskedFor client name mode)) refl refl (ends node fit)
+    by_event laws n start ms (Ask node client name mode) sends marks before counted node (acts.Ask client name mode) fit (at_node node (acts.Ask client name mode)) refl refl (ends node fit)
 one_more laws n start ms (Leave node client name) sends marks before counted fit ends =
-    by_event laws n start ms (Leave node client name) sends marks before counted node (GivenBack client name) fit (at_node node (GivenBack client name)) refl refl (ends node fit)
+    by_event laws n start ms (Leave node client name) sends marks before counted node (acts.Leave client name) fit (at_node node (acts.Leave client name)) refl refl (ends node fit)
 one_more laws n start ms (Cancel node client name) sends marks before counted fit ends =
-    by_event laws n start ms (Cancel node client name) sends marks before counted node (GivenUp client name) fit (at_node node (GivenUp client name)) refl refl (ends node fit)
+    by_event laws n start ms (Cancel node client name) sends marks before counted node (acts.Cancel client name) fit (at_node node (acts.Cancel client name)) refl refl (ends node fit)
 one_more laws n start ms (Forget node) sends marks before counted fit ends =
-    by_event laws n start ms (Forget node) sends marks before counted node Forgot fit (at_node node Forgot) refl refl (ends node fit)
+    by_event laws n start ms (Forget node) sends marks before counted node acts.Forget fit (at_node node acts.Forget) refl refl (ends node fit)
 one_more laws n start ms (Deliver message) sends marks before counted fit ends =
     let within = (was_under_way laws n start ms before message fit).traffic.to in
-    by_event laws n start ms (Deliver message) sends marks before counted (to_of message) (Received message) within (at_node (to_of message) (Received message)) refl refl (ends (to_of message) within)
+    by_event laws n start ms (Deliver message) sends marks before counted (to_of message) (acts.Receive message) within (at_node (to_of message) (acts.Receive message)) refl refl (ends (to_of message) within)
 one_more laws n start ms (Lose message) sends marks before counted fit ends = by_nothing laws n start ms (Lose message) sends marks before counted (λ i. refl) fit.2 refl refl
 one_more laws n start ms (Repeat message) sends marks before counted fit ends = by_nothing laws n start ms (Repeat message) sends marks before counted (λ i. refl) fit.2 refl refl
 

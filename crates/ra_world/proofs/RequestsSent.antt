@@ -15,7 +15,7 @@ use Rattle.ra_node.specs.Resource.{Resource}
 use Rattle.ra_node.specs.Turns.{request_marks, next_entry, EntersBy, AskTurn, Leaves, Withdraws, EndTurn, LeaveTurn, CancelTurn, ReceiveTurn}
 use Rattle.ra_node.specs.Node.{NodeState, resource_at, IsConsistentNode}
 use Rattle.ra_node.specs.Events.{Event, NodeEvent}
-use Rattle.ra_node.specs.Events.Event.{Ask as AskedFor, Leave as GivenBack, Cancel as GivenUp, Receive as Received, Forget as Forgot}
+use Rattle.ra_node.specs.Events.{Event as acts}
 use Rattle.ra_world.specs.declared.step.Step.{Step}
 use Rattle.ra_world.specs.declared.step.Step.TheVariants.{Ask, Leave, Cancel, Deliver, Lose, Repeat, Forget}
 use Rattle.ra_world.specs.Fairness.{request_to}
@@ -96,14 +96,14 @@ module _ (n : ℕ) (before after : Resource) (sends : List Message) (marks : Lis
       entered_sent true enters = All-same (IsSentIn n sends) marks (Entered enters.0 ∷ []) enters.2 (All-cons (IsSentIn n sends) (Entered enters.0) [] tt (All-nil (IsSentIn n sends)))
 
 pub event_sent : (n : ℕ) (old new : NodeState) (event : Event) (sends : List Message) (marks : List Mark) → IsConsistentNode old → old.nodes ≡ n → NodeEvent old event sends marks new → All (IsSentIn n sends) marks
-event_sent n old new (AskedFor client name mode) sends marks consistent nodes asked =
+event_sent n old new (acts.Ask client name mode) sends marks consistent nodes asked =
     ask_sent n (resource_at old name) asked.resource sends marks ((consistent.each name).nodes_is ∙ nodes) client mode asked.turn
-event_sent n old new (GivenBack client name) sends marks consistent nodes left =
+event_sent n old new (acts.Leave client name) sends marks consistent nodes left =
     leave_sent n (resource_at old name) left.resource sends marks ((consistent.each name).nodes_is ∙ nodes) client left.turn
-event_sent n old new (GivenUp client name) sends marks consistent nodes cancelled =
+event_sent n old new (acts.Cancel client name) sends marks consistent nodes cancelled =
     cancel_sent n (resource_at old name) cancelled.resource sends marks ((consistent.each name).nodes_is ∙ nodes) client cancelled.turn
-event_sent n old new Forgot sends marks consistent nodes forgot = All-same (IsSentIn n sends) marks [] forgot.marks_are (All-nil (IsSentIn n sends))
-event_sent n old new (Received message) sends marks consistent nodes received =
+event_sent n old new acts.Forget sends marks consistent nodes forgot = All-same (IsSentIn n sends) marks [] forgot.marks_are (All-nil (IsSentIn n sends))
+event_sent n old new (acts.Receive message) sends marks consistent nodes received =
     receive_sent n (resource_at old (name_of message)) received.resource sends marks ((consistent.each (name_of message)).nodes_is ∙ nodes) message received.turn
 
 -- ---- What becomes of a message that was sent

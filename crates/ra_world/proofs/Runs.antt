@@ -8,7 +8,7 @@ use Rattle.ra_stamp.specs.Message.{to_of}
 use Rattle.ra_stamp.specs.NodeId.{IsNodeNumber}
 use Rattle.ra_node.specs.Node.{NodeState, opening_node}
 use Rattle.ra_node.specs.Events.{Event, Happening, NodeEvents}
-use Rattle.ra_node.specs.Events.Event.{Ask as AskedFor, Leave as GivenBack, Cancel as GivenUp, Receive as Received, Forget as Forgot}
+use Rattle.ra_node.specs.Events.{Event as acts}
 use Rattle.ra_world.specs.declared.step.Step.{Step}
 use Rattle.ra_world.specs.declared.step.Step.TheVariants.{Ask, Leave, Cancel, Deliver, Lose, Repeat, Forget}
 use Rattle.ra_world.specs.Below.{LawsBelow}
@@ -87,20 +87,20 @@ module _ (laws : LawsBelow) {Lossy Copied : Type 0} (n start : ℕ) where
   alike_move : (ms : List Move) (step : Step) (sends sends' : List Message) (marks marks' : List Mark) → Reached Lossy Copied n start ms → IsFit n ms step sends marks → IsFit n ms step sends' marks'
       → ((i : ℕ) → IsNode n i → EndsAt n start (ms ++ with_step step sends marks ∷ []) i) → ((i : ℕ) → IsNode n i → EndsAt n start (ms ++ with_step step sends' marks' ∷ []) i) → (sends ≡ sends') × (marks ≡ marks')
   alike_move ms (Ask node client name mode) sends sends' marks marks' before fit fit' ends ends' =
-      let event = AskedFor client name mode in
+      let event = acts.Ask client name mode in
       alike_at ms (Ask node client name mode) sends sends' marks marks' node event before fit (at_node node event) (ends node fit) (ends' node fit)
   alike_move ms (Leave node client name) sends sends' marks marks' before fit fit' ends ends' =
-      let event = GivenBack client name in
+      let event = acts.Leave client name in
       alike_at ms (Leave node client name) sends sends' marks marks' node event before fit (at_node node event) (ends node fit) (ends' node fit)
   alike_move ms (Cancel node client name) sends sends' marks marks' before fit fit' ends ends' =
-      let event = GivenUp client name in
+      let event = acts.Cancel client name in
       alike_at ms (Cancel node client name) sends sends' marks marks' node event before fit (at_node node event) (ends node fit) (ends' node fit)
   alike_move ms (Forget node) sends sends' marks marks' before fit fit' ends ends' =
-      alike_at ms (Forget node) sends sends' marks marks' node Forgot before fit (at_node node Forgot) (ends node fit) (ends' node fit)
+      alike_at ms (Forget node) sends sends' marks marks' node acts.Forget before fit (at_node node acts.Forget) (ends node fit) (ends' node fit)
   alike_move ms (Deliver message) sends sends' marks marks' before fit fit' ends ends' =
       let p = to_of message in
       let within = (was_under_way laws n start ms before message fit).traffic.to in
-      alike_at ms (Deliver message) sends sends' marks marks' p (Received message) before within (at_node p (Received message)) (ends p within) (ends' p within)
+      alike_at ms (Deliver message) sends sends' marks marks' p (acts.Receive message) before within (at_node p (acts.Receive message)) (ends p within) (ends' p within)
   alike_move ms (Lose message) sends sends' marks marks' before fit fit' ends ends' = (fit.1 ∙ sym fit'.1, fit.2 ∙ sym fit'.2)
   alike_move ms (Repeat message) sends sends' marks marks' before fit fit' ends ends' = (fit.1 ∙ sym fit'.1, fit.2 ∙ sym fit'.2)
 

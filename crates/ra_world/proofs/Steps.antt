@@ -19,7 +19,7 @@ use Rattle.ra_node.proofs.Forgetting.{NothingElse, any_ones, slots_of, all_consi
 use Rattle.ra_automaton.proofs.Apart.{cases_same}
 use Rattle.ra_node.specs.Node.{NodeState, resource_at}
 use Rattle.ra_node.specs.Events.{IsForThisNode}
-use Rattle.ra_node.specs.Events.Event.{Ask as AskedFor, Leave as GivenBack, Cancel as GivenUp, Receive as Received, Forget as Forgot}
+use Rattle.ra_node.specs.Events.{Event as acts}
 use Rattle.ra_table.specs.Table.{TableRun}
 use Rattle.ra_world.specs.declared.step.Step.{Step}
 use Rattle.ra_world.specs.declared.step.Step.TheVariants.{Ask, Leave, Cancel, Deliver, Lose, Repeat, Forget}
@@ -56,16 +56,16 @@ fresh_request n s bag rest message protocol within other takes from to seq name 
     ap (finmap.get (s (to_of message)).deferred) (sym (ap from_of is)) ∙ fresh_at n s bag rest message protocol within other takes (ap is_request is)
 
 -- no message comes by an ask or a leave, and one that comes has its own number
-not_by_ask : (client : ℕ) (name : List ℕ) (mode : Mode) (message : Message) → AskedFor client name mode ≡ Received message → 1 ≤ seq_of message
+not_by_ask : (client : ℕ) (name : List ℕ) (mode : Mode) (message : Message) → acts.Ask client name mode ≡ acts.Receive message → 1 ≤ seq_of message
 not_by_ask client name mode message is = absurd cc
 
-not_by_leave : (client : ℕ) (name : List ℕ) (message : Message) → GivenBack client name ≡ Received message → 1 ≤ seq_of message
+not_by_leave : (client : ℕ) (name : List ℕ) (message : Message) → acts.Leave client name ≡ acts.Receive message → 1 ≤ seq_of message
 not_by_leave client name message is = absurd cc
 
-not_by_cancel : (client : ℕ) (name : List ℕ) (message : Message) → GivenUp client name ≡ Received message → 1 ≤ seq_of message
+not_by_cancel : (client : ℕ) (name : List ℕ) (message : Message) → acts.Cancel client name ≡ acts.Receive message → 1 ≤ seq_of message
 not_by_cancel client name message is = absurd cc
 
-by_receive : (came : Message) → 1 ≤ seq_of came → (message : Message) → Received came ≡ Received message → 1 ≤ seq_of message
+by_receive : (came : Message) → 1 ≤ seq_of came → (message : Message) → acts.Receive came ≡ acts.Receive message → 1 ≤ seq_of message
 by_receive came numbered message is = let same : came ≡ message = cc in subst (λ (x : Message). 1 ≤ seq_of x) same numbered
 
 module _ (laws : LawsBelow) {Lossy Copied : Type 0} (n start : ℕ) (ms : List Move) (sends : List Message) (marks : List Mark) (before : Reached Lossy Copied n start ms) where
@@ -75,7 +75,7 @@ module _ (laws : LawsBelow) {Lossy Copied : Type 0} (n start : ℕ) (ms : List M
   ask_reached : (p client : ℕ) (name : List ℕ) (mode : Mode) → IsNode n p → EndsAt n start (ms ++ move (Ask p client name mode) ∷ []) p → Reached Lossy Copied n start (ms ++ move (Ask p client name mode) ∷ [])
   ask_reached p client name mode within end =
       let m = move (Ask p client name mode) in
-      let event = AskedFor client name mode in
+      let event = acts.Ask client name mode in
       let here = at_node p event in
       let happened = event_happened laws n start ms m before p within event here end in
       let new = happened.0 in
@@ -97,7 +97,7 @@ module _ (laws : LawsBelow) {Lossy Copied : Type 0} (n start : ℕ) (ms : List M
   leave_reached : (p client : ℕ) (name : List ℕ) → IsNode n p → EndsAt n start (ms ++ move (Leave p client name) ∷ []) p → Reached Lossy Copied n start (ms ++ move (Leave p client name) ∷ [])
   leave_reached p client name within end =
       let m = move (Leave p client name) in
-      let event = GivenBack client name in
+      let event = acts.Leave client name in
       let here = at_node p event in
       let happened = event_happened laws n start ms m before p within event here end in
       let new = happened.0 in
@@ -120,7 +120,7 @@ module _ (laws : LawsBelow) {Lossy Copied : Type 0} (n start : ℕ) (ms : List M
   cancel_reached : (withdrawn_in marks ≡ 0) ⊎ Copied → (p client : ℕ) (name : List ℕ) → IsNode n p → EndsAt n start (ms ++ move (Cancel p client name) ∷ []) p → Reached Lossy Copied n start (ms ++ move (Cancel p client name) ∷ [])
   cancel_reached may p client name within end =
       let m = move (Cancel p client name) in
-      let event = GivenUp client name in
+      let event = acts.Cancel client name in
       let here = at_node p event in
       let happened = event_happened laws n start ms m before p within event here end in
       let new = happened.0 in
@@ -146,7 +146,7 @@ module _ (laws : LawsBelow) {Lossy Copied : Type 0} (n start : ℕ) (ms : List M
       let was = was_under_way laws n start ms before message is_under_way in
       let p = to_of message in
       let within = was.traffic.to in
-      let event = Received message in
+      let event = acts.Receive message in
       let here = at_node p event in
       let happened = event_happened laws n start ms m before p within event here (ends p within) in
       let new = happened.0 in
@@ -240,8 +240,8 @@ module _ (laws : LawsBelow) {Lossy Copied : Type 0} (n start : ℕ) (ms : List M
   forget_reached : (p : ℕ) → IsNode n p → EndsAt n start (ms ++ move (Forget p) ∷ []) p → Reached Lossy Copied n start (ms ++ move (Forget p) ∷ [])
   forget_reached p within end =
       let m = move (Forget p) in
-      let here = at_node p Forgot in
-      let happened = event_happened laws n start ms m before p within Forgot here end in
+      let here = at_node p acts.Forget in
+      let happened = event_happened laws n start ms m before p within acts.Forget here end in
       let new = happened.0 in
       let event = happened.1 in
       let no_sends = event.sends_are in
@@ -249,7 +249,7 @@ module _ (laws : LawsBelow) {Lossy Copied : Type 0} (n start : ℕ) (ms : List M
       let nodes = with_node before.nodes p new in
       let turned = put_node before.nodes p new in
       let was = before.invariant.each p within in
-      let there : IsThere n p new = record { consistent = laws.consistent (before.nodes p) new Forgot sends marks was.consistent tt event; me_is = event.me_is ∙ was.me_is; nodes_is = event.nodes_is ∙ was.nodes_is } in
+      let there : IsThere n p new = record { consistent = laws.consistent (before.nodes p) new acts.Forget sends marks was.consistent tt event; me_is = event.me_is ∙ was.me_is; nodes_is = event.nodes_is ∙ was.nodes_is } in
       let most = start + requests_in (marks_of ms) in
       let low : event.number ≤ most = elim event.common.is_one [
         | inl none ↦ omega (arith, none)
@@ -264,7 +264,7 @@ module _ (laws : LawsBelow) {Lossy Copied : Type 0} (n start : ℕ) (ms : List M
         nodes = nodes;
         bag = before.bag;
         table = before.table;
-        ends = ends_after laws.joins n start ms m before.nodes p Forgot new before.ends here event;
+        ends = ends_after laws.joins n start ms m before.nodes p acts.Forget new before.ends here event;
         under_way = subst (λ (xs : List Message). LeavesUnderWay (ms ++ m ∷ []) xs) (ap (λ (xs : List Message). before.bag ++ xs) no_sends ∙ append-nil before.bag) (under_way_sent ms m before.bag before.bag before.under_way refl refl);
         run = subst (λ (xs : List Mark). TableRun xs before.table) (sym (marks_more ms m ∙ ap (λ (xs : List Mark). marks_of ms ++ xs) no_marks ∙ append-nil (marks_of ms))) before.run;
         invariant = forgot start n before.nodes nodes p new before.bag before.table before.invariant within turned there sends marks event;

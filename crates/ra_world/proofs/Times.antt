@@ -9,7 +9,7 @@ use Rattle.ra_stamp.specs.declared.message.Message.{Message}
 use Rattle.ra_stamp.specs.Message.{to_of}
 use Rattle.ra_bag.specs.Bag.{TakesFirst}
 use Rattle.ra_node.specs.Events.{Event, Happening}
-use Rattle.ra_node.specs.Events.Event.{Ask as AskedFor, Leave as GivenBack, Cancel as GivenUp, Receive as Received, Forget as Forgot}
+use Rattle.ra_node.specs.Events.{Event as acts}
 use Rattle.ra_world.specs.declared.step.Step.{Step}
 use Rattle.ra_world.specs.declared.step.Step.TheVariants.{Ask, Leave, Cancel, Deliver, Lose, Repeat, Forget}
 use Rattle.ra_world.specs.Traffic.{Move, TakesEach, sent_by, put_in, put_by, repeated_in, repeated_by}
@@ -88,11 +88,11 @@ few true e = omega arith
 few false e = omega arith
 
 one_at_most : (i : ℕ) (step : Step) → length (events_at i step) ≤ 1
-one_at_most i (Ask node client name mode) = few (eqb node i) (AskedFor client name mode)
-one_at_most i (Leave node client name) = few (eqb node i) (GivenBack client name)
-one_at_most i (Cancel node client name) = few (eqb node i) (GivenUp client name)
-one_at_most i (Forget node) = few (eqb node i) Forgot
-one_at_most i (Deliver message) = few (eqb (to_of message) i) (Received message)
+one_at_most i (Ask node client name mode) = few (eqb node i) (acts.Ask client name mode)
+one_at_most i (Leave node client name) = few (eqb node i) (acts.Leave client name)
+one_at_most i (Cancel node client name) = few (eqb node i) (acts.Cancel client name)
+one_at_most i (Forget node) = few (eqb node i) acts.Forget
+one_at_most i (Deliver message) = few (eqb (to_of message) i) (acts.Receive message)
 one_at_most i (Lose message) = omega arith
 one_at_most i (Repeat message) = omega arith
 

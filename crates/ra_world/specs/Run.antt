@@ -6,20 +6,20 @@ use Rattle.ra_stamp.specs.declared.entry.Mark.{Mark}
 use Rattle.ra_stamp.specs.Message.{to_of}
 use Rattle.ra_node.specs.Node.{NodeState, opening_node, waiting_count, queued_count}
 use Rattle.ra_node.specs.Events.{Event, Happening, NodeEvents}
-use Rattle.ra_node.specs.Events.Event.{Ask as AskedFor, Leave as GivenBack, Cancel as GivenUp, Receive as Received, Forget as Forgot}
+use Rattle.ra_node.specs.Events.{Event as acts}
 use Rattle.ra_world.specs.declared.step.Step.{Step}
 use Rattle.ra_world.specs.declared.step.Step.TheVariants.{Ask, Leave, Cancel, Deliver, Lose, Repeat, Forget}
 use Rattle.ra_world.specs.Traffic.{Move, IsUnderWay}
 
 -- what happens at a node in a step: one event, or nothing
 abbrev pub events_at : ℕ → Step → List Event
-events_at i (Ask node client name mode) = if node == i then AskedFor client name mode ∷ [] else []
-events_at i (Leave node client name) = if node == i then GivenBack client name ∷ [] else []
-events_at i (Cancel node client name) = if node == i then GivenUp client name ∷ [] else []
-events_at i (Deliver message) = if to_of message == i then Received message ∷ [] else []
+events_at i (Ask node client name mode) = if node == i then acts.Ask client name mode ∷ [] else []
+events_at i (Leave node client name) = if node == i then acts.Leave client name ∷ [] else []
+events_at i (Cancel node client name) = if node == i then acts.Cancel client name ∷ [] else []
+events_at i (Deliver message) = if to_of message == i then acts.Receive message ∷ [] else []
 events_at i (Lose message) = []
 events_at i (Repeat message) = []
-events_at i (Forget node) = if node == i then Forgot ∷ [] else []
+events_at i (Forget node) = if node == i then acts.Forget ∷ [] else []
 
 -- what happened at a node, in order
 abbrev pub happened_at : ℕ → List Move → List Happening

@@ -9,7 +9,7 @@ use Rattle.ra_node.specs.Faults.{IsAskRefusal, IsLeaveRefusal, IsCancelRefusal}
 use Rattle.ra_node.specs.Node.{NodeState, resource_at}
 use Rattle.ra_node.specs.Memory.{BringsNothing}
 use Rattle.ra_node.specs.Events.{Event, NodeEvent}
-use Rattle.ra_node.specs.Events.Event.{Ask as AskedFor, Leave as GivenBack, Cancel as GivenUp, Receive as Received, Forget as Forgot}
+use Rattle.ra_node.specs.Events.{Event as acts}
 use Rattle.ra_node.specs.declared.outcome.Outcome.{Outcome}
 use Rattle.ra_world.specs.declared.step.Step.{Step}
 use Rattle.ra_world.specs.declared.error.NodeRefusal.TheVariants.{Busy, Exhausted, NotHeld, NotWaiting}
@@ -26,43 +26,43 @@ TakesEqual moves old message new = TakesFirst old message new ⊎ ((repeated_by 
 
 -- what an event leaves of the messages under way: all of them, but not the one that its node receives
 abbrev pub LeavesOthers : List Move → List Message → Event → List Message → Type 0
-LeavesOthers moves old (AskedFor client name mode) new = new ≡ old
-LeavesOthers moves old (GivenBack client name) new = new ≡ old
-LeavesOthers moves old (GivenUp client name) new = new ≡ old
-LeavesOthers moves old (Received message) new = TakesEqual moves old message new
-LeavesOthers moves old Forgot new = new ≡ old
+LeavesOthers moves old (acts.Ask client name mode) new = new ≡ old
+LeavesOthers moves old (acts.Leave client name) new = new ≡ old
+LeavesOthers moves old (acts.Cancel client name) new = new ≡ old
+LeavesOthers moves old (acts.Receive message) new = TakesEqual moves old message new
+LeavesOthers moves old acts.Forget new = new ≡ old
 
 -- why an event does not happen at a node: the node refuses it, or it may happen but memory is short
 abbrev pub IsEventRefusal : NodeState → List Move → Event → StepError → Type 0
-IsEventRefusal s moves (AskedFor client name mode) NoNode = ⊥
-IsEventRefusal s moves (AskedFor client name mode) NotUnderWay = ⊥
-IsEventRefusal s moves (AskedFor client name mode) (Node Busy) = IsAskRefusal (resource_at s name) client asking.Busy
-IsEventRefusal s moves (AskedFor client name mode) (Node Exhausted) = IsAskRefusal (resource_at s name) client asking.Exhausted
-IsEventRefusal s moves (AskedFor client name mode) (Node NotHeld) = ⊥
-IsEventRefusal s moves (AskedFor client name mode) (Node NotWaiting) = ⊥
-IsEventRefusal s moves (AskedFor client name mode) Memory = IsAskRefusal (resource_at s name) client asking.Memory
-IsEventRefusal s moves (GivenBack client name) NoNode = ⊥
-IsEventRefusal s moves (GivenBack client name) NotUnderWay = ⊥
-IsEventRefusal s moves (GivenBack client name) (Node Busy) = ⊥
-IsEventRefusal s moves (GivenBack client name) (Node Exhausted) = ⊥
-IsEventRefusal s moves (GivenBack client name) (Node NotHeld) = IsLeaveRefusal (resource_at s name) client leaving.NotHeld
-IsEventRefusal s moves (GivenBack client name) (Node NotWaiting) = ⊥
-IsEventRefusal s moves (GivenBack client name) Memory = IsLeaveRefusal (resource_at s name) client leaving.Memory
-IsEventRefusal s moves (GivenUp client name) NoNode = ⊥
-IsEventRefusal s moves (GivenUp client name) NotUnderWay = ⊥
-IsEventRefusal s moves (GivenUp client name) (Node Busy) = ⊥
-IsEventRefusal s moves (GivenUp client name) (Node Exhausted) = ⊥
-IsEventRefusal s moves (GivenUp client name) (Node NotHeld) = ⊥
-IsEventRefusal s moves (GivenUp client name) (Node NotWaiting) = IsCancelRefusal (resource_at s name) client cancelling.NotWaiting
-IsEventRefusal s moves (GivenUp client name) Memory = IsCancelRefusal (resource_at s name) client cancelling.Memory
-IsEventRefusal s moves Forgot NoNode = ⊥
-IsEventRefusal s moves Forgot NotUnderWay = ⊥
-IsEventRefusal s moves Forgot (Node why) = ⊥
-IsEventRefusal s moves Forgot Memory = IsFull moves
-IsEventRefusal s moves (Received message) NoNode = ⊥
-IsEventRefusal s moves (Received message) NotUnderWay = ⊥
-IsEventRefusal s moves (Received message) (Node why) = ⊥
-IsEventRefusal s moves (Received message) Memory = (BringsNothing s message → ⊥) ⊎ IsFull moves
+IsEventRefusal s moves (acts.Ask client name mode) NoNode = ⊥
+IsEventRefusal s moves (acts.Ask client name mode) NotUnderWay = ⊥
+IsEventRefusal s moves (acts.Ask client name mode) (Node Busy) = IsAskRefusal (resource_at s name) client asking.Busy
+IsEventRefusal s moves (acts.Ask client name mode) (Node Exhausted) = IsAskRefusal (resource_at s name) client asking.Exhausted
+IsEventRefusal s moves (acts.Ask client name mode) (Node NotHeld) = ⊥
+IsEventRefusal s moves (acts.Ask client name mode) (Node NotWaiting) = ⊥
+IsEventRefusal s moves (acts.Ask client name mode) Memory = IsAskRefusal (resource_at s name) client asking.Memory
+IsEventRefusal s moves (acts.Leave client name) NoNode = ⊥
+IsEventRefusal s moves (acts.Leave client name) NotUnderWay = ⊥
+IsEventRefusal s moves (acts.Leave client name) (Node Busy) = ⊥
+IsEventRefusal s moves (acts.Leave client name) (Node Exhausted) = ⊥
+IsEventRefusal s moves (acts.Leave client name) (Node NotHeld) = IsLeaveRefusal (resource_at s name) client leaving.NotHeld
+IsEventRefusal s moves (acts.Leave client name) (Node NotWaiting) = ⊥
+IsEventRefusal s moves (acts.Leave client name) Memory = IsLeaveRefusal (resource_at s name) client leaving.Memory
+IsEventRefusal s moves (acts.Cancel client name) NoNode = ⊥
+IsEventRefusal s moves (acts.Cancel client name) NotUnderWay = ⊥
+IsEventRefusal s moves (acts.Cancel client name) (Node Busy) = ⊥
+IsEventRefusal s moves (acts.Cancel client name) (Node Exhausted) = ⊥
+IsEventRefusal s moves (acts.Cancel client name) (Node NotHeld) = ⊥
+IsEventRefusal s moves (acts.Cancel client name) (Node NotWaiting) = IsCancelRefusal (resource_at s name) client cancelling.NotWaiting
+IsEventRefusal s moves (acts.Cancel client name) Memory = IsCancelRefusal (resource_at s name) client cancelling.Memory
+IsEventRefusal s moves acts.Forget NoNode = ⊥
+IsEventRefusal s moves acts.Forget NotUnderWay = ⊥
+IsEventRefusal s moves acts.Forget (Node why) = ⊥
+IsEventRefusal s moves acts.Forget Memory = IsFull moves
+IsEventRefusal s moves (acts.Receive message) NoNode = ⊥
+IsEventRefusal s moves (acts.Receive message) NotUnderWay = ⊥
+IsEventRefusal s moves (acts.Receive message) (Node why) = ⊥
+IsEventRefusal s moves (acts.Receive message) Memory = (BringsNothing s message → ⊥) ⊎ IsFull moves
 
 -- what comes of a step that is tried as an event of a node: the event happens there, what it sends comes under way after
 -- the messages that it leaves there, and the step is logged; or nothing changes, for this cause

@@ -232,7 +232,7 @@ fn assert_left<R: AllocGlobal + Wait + Abort>(
 /// Asserts that only the REQUEST from node 1 is left in the inbox of node 2, in a frame with clock 1.
 fn assert_one_left<R: AllocGlobal + Wait + Abort>(rt: &R, at: At<'_>, all: &Cluster) {
     let message = request(rt, 1, 2, Mode::Exclusive);
-    let kind = BookKind::Got(Frame { clock: 1, message });
+    let kind = BookKind::Receive(Frame { clock: 1, message });
     let first = Some(BookEvent { clock: 2, kind });
     assert_same(rt, at, &taken_from(rt, all, 1, 2), &Some((1, first)));
 }

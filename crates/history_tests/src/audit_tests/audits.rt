@@ -202,7 +202,7 @@ pub fn fault_of(rt: &impl Abort, came: Came) -> AuditFault {
         sent_at: sent,
         message: wire,
     } = came;
-    let kind = BookKind::Got(frame(sent, wire));
+    let kind = BookKind::Receive(frame(sent, wire));
     AuditFault {
         node: node(rt, number),
         event: BookEvent { clock, kind },

@@ -4,8 +4,8 @@ use crate::kept_books::history_asserting::{assert_same, fail_at};
 use crate::kept_books::history_values::bytes_of;
 use Call::{Ask, Leave, Receive};
 use Step::{
-    Asked, Fails, Gave, Got, Has, HasFault, IsFree, IsHeld, IsNew, Loses, Posts, Refuses,
-    RefusesToLose, Takes, WasSent,
+    Fails, Has, HasAsk, HasFault, HasLeave, HasReceive, IsFree, IsHeld, IsNew, Loses, Posts,
+    Refuses, RefusesToLose, Takes, WasSent,
 };
 use Wire::{Asks, Replies};
 use ra_book::{Book, BookError, BookEvent, BookKind, MarkLostError, Posted, Sent, Stop};
@@ -103,11 +103,11 @@ pub enum Step<'a> {
         lost: bool,
     },
     /// Client 1 asked for `r`, exclusively, at this place and clock.
-    Asked(u64, u64),
+    HasAsk(u64, u64),
     /// Client 1 left `r` at this place and clock.
-    Gave(u64, u64),
+    HasLeave(u64, u64),
     /// The message arrived at this place and clock, in a frame with the clock `sent_at`.
-    Got {
+    HasReceive {
         place: u64,
         clock: u64,
         sent_at: u64,
@@ -271,27 +271,27 @@ fn assert_happened(rt: &impl Abort, at: At<'_>, book: &Book, step: Step<'_>) {
             let frame = frame(clock, wire);
             assert_same(rt, at, &book.sent(place), &Some(Sent { frame, lost }));
         }
-        Asked(place, clock) => {
+        HasAsk(place, clock) => {
             assert_event(
                 rt,
                 at,
                 book,
                 place,
                 clock,
-                BookKind::Asked { client, name, mode },
+                BookKind::Ask { client, name, mode },
             )
         }
-        Gave(place, clock) => {
-            assert_event(rt, at, book, place, clock, BookKind::Gave { client, name })
+        HasLeave(place, clock) => {
+            assert_event(rt, at, book, place, clock, BookKind::Leave { client, name })
         }
-        Got {
+        HasReceive {
             place,
             clock,
             sent_at: other,
             message: wire,
         } => {
             let frame = frame(other, wire);
-            assert_event(rt, at, book, place, clock, BookKind::Got(frame));
+            assert_event(rt, at, book, place, clock, BookKind::Receive(frame));
         }
         _ => fail_at(rt, at, "this is nothing that happened"),
     }

@@ -7,8 +7,8 @@ use crate::kept_books::history_asserting::assert_same;
 use crate::kept_books::history_values::new_book;
 use Call::{Ask, Receive};
 use Step::{
-    Asked, Fails, Gave, Got, Has, HasFault, IsFree, IsHeld, IsNew, Loses, Posts, Refuses,
-    RefusesToLose, Takes, WasSent,
+    Fails, Has, HasAsk, HasFault, HasLeave, HasReceive, IsFree, IsHeld, IsNew, Loses, Posts,
+    Refuses, RefusesToLose, Takes, WasSent,
 };
 use Wire::{Asks, Replies};
 use ra_book::{BookError, MarkLostError, NewError, Stop};
@@ -100,7 +100,7 @@ const TAKEN: &[Row] = &[
         made: TWO,
         steps: &[
             Posts(Receive(&ASKS_1), Some(&REPLIES), None),
-            Got {
+            HasReceive {
                 place: 0,
                 clock: 2,
                 sent_at: 1,
@@ -114,7 +114,7 @@ const TAKEN: &[Row] = &[
         steps: &[
             Takes(ASK),
             Posts(Receive(&REPLIES_1), None, Some(Turn::Entered)),
-            Got {
+            HasReceive {
                 place: 1,
                 clock: 3,
                 sent_at: 2,
@@ -146,14 +146,14 @@ const TAKEN: &[Row] = &[
             Takes(ASK),
             Takes(Receive(&REPLIES)),
             Takes(LEAVE),
-            Asked(0, 1),
-            Got {
+            HasAsk(0, 1),
+            HasReceive {
                 place: 1,
                 clock: 3,
                 sent_at: 2,
                 message: Replies,
             },
-            Gave(2, 4),
+            HasLeave(2, 4),
             WasSent {
                 place: 0,
                 clock: 1,
@@ -172,7 +172,7 @@ const TAKEN: &[Row] = &[
         made: TWO,
         steps: &[
             Takes(Receive(&ASKS)),
-            Got {
+            HasReceive {
                 place: 0,
                 clock: 2,
                 sent_at: 1,

@@ -95,11 +95,11 @@ impl Flights {
         ensures { IsTrue result ↔ AreNoted self.now (frames_in kind.now) }
     {
         match kind {
-            BookKind::Got(frame) => self.has(frame),
-            BookKind::Asked { .. }
-            | BookKind::Gave { .. }
-            | BookKind::Cancelled { .. }
-            | BookKind::Forgot => true,
+            BookKind::Receive(frame) => self.has(frame),
+            BookKind::Ask { .. }
+            | BookKind::Leave { .. }
+            | BookKind::Cancel { .. }
+            | BookKind::Forget => true,
         }
     }
 
@@ -118,11 +118,11 @@ impl Flights {
         ensures { IsTrue result ↔ All (λ frame. HasClock self.now frame.message frame.clock) (frames_in kind.now) }
     {
         match kind {
-            BookKind::Got(frame) => self.flies(frame),
-            BookKind::Asked { .. }
-            | BookKind::Gave { .. }
-            | BookKind::Cancelled { .. }
-            | BookKind::Forgot => true,
+            BookKind::Receive(frame) => self.flies(frame),
+            BookKind::Ask { .. }
+            | BookKind::Leave { .. }
+            | BookKind::Cancel { .. }
+            | BookKind::Forget => true,
         }
     }
 
@@ -158,11 +158,11 @@ impl Flights {
             (frames_in kind.now)) self.old.clock self.old.last self.new }
     {
         match kind {
-            BookKind::Got(frame) => self.take(&frame.message),
-            BookKind::Asked { .. }
-            | BookKind::Gave { .. }
-            | BookKind::Cancelled { .. }
-            | BookKind::Forgot => {}
+            BookKind::Receive(frame) => self.take(&frame.message),
+            BookKind::Ask { .. }
+            | BookKind::Leave { .. }
+            | BookKind::Cancel { .. }
+            | BookKind::Forget => {}
         }
     }
 

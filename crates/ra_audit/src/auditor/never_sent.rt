@@ -77,17 +77,17 @@ fn may_come(nodes: &[NodeProgress], kind: &BookKind, came: u64, known: u64) -> b
     ensures may { IsTrue result → MayCome nodes.now (known < came) kind.now }
     ensures none { result ≡ false → (IsDue nodes.now kind.now → ⊥) → IsOfNone nodes.now (came ≤ known) kind.now }
     // Of no other event is the answer no, although each of them can be put into the run at once.
-    ensures frames { result ≡ false → (frame : Frame) × (kind.now ≡ BookKind.Got frame) }
+    ensures frames { result ≡ false → (frame : Frame) × (kind.now ≡ BookKind.Receive frame) }
 {
     match kind {
-        BookKind::Got(frame) => match nodes.get(frame.message.from().place()) {
+        BookKind::Receive(frame) => match nodes.get(frame.message.from().place()) {
             Some(progress) => may_come_from(progress, frame.clock, came, known),
             None => true,
         },
-        BookKind::Asked { .. }
-        | BookKind::Gave { .. }
-        | BookKind::Cancelled { .. }
-        | BookKind::Forgot => true,
+        BookKind::Ask { .. }
+        | BookKind::Leave { .. }
+        | BookKind::Cancel { .. }
+        | BookKind::Forget => true,
     }
 }
 

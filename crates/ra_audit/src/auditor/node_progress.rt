@@ -291,10 +291,10 @@ fn is_for(node: NodeId, kind: &BookKind) -> bool
     ensures { IsTrue result ↔ IsForNumber node kind.now }
 {
     match kind {
-        BookKind::Got(frame) => frame.message.to() == node,
-        BookKind::Asked { .. }
-        | BookKind::Gave { .. }
-        | BookKind::Cancelled { .. }
-        | BookKind::Forgot => true,
+        BookKind::Receive(frame) => frame.message.to() == node,
+        BookKind::Ask { .. }
+        | BookKind::Leave { .. }
+        | BookKind::Cancel { .. }
+        | BookKind::Forget => true,
     }
 }

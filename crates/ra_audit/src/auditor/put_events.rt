@@ -207,11 +207,11 @@ fn is_due(nodes: &[NodeProgress], kind: &BookKind) -> bool
     ensures { IsTrue result ↔ IsDue nodes.now kind.now }
 {
     match kind {
-        BookKind::Got(frame) => is_reached(nodes, frame),
-        BookKind::Asked { .. }
-        | BookKind::Gave { .. }
-        | BookKind::Cancelled { .. }
-        | BookKind::Forgot => true,
+        BookKind::Receive(frame) => is_reached(nodes, frame),
+        BookKind::Ask { .. }
+        | BookKind::Leave { .. }
+        | BookKind::Cancel { .. }
+        | BookKind::Forget => true,
     }
 }
 

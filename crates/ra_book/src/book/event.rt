@@ -4,16 +4,16 @@ use ra_stamp::{Mode, Name, Sequence};
 /// What happens at a node.
 #[derive(Clone, Copy, Debug, PartialEq, Eq)]
 pub enum BookKind {
-    /// A client of the node asked for a name.
-    Asked { client: u32, name: Name, mode: Mode },
-    /// A client of the node left a name.
-    Gave { client: u32, name: Name },
-    /// A client of the node gave up a name for which it waited or was queued.
-    Cancelled { client: u32, name: Name },
-    /// A frame came.
-    Got(Frame),
-    /// The node forgot names.
-    Forgot,
+    /// A client of the node asks for a name.
+    Ask { client: u32, name: Name, mode: Mode },
+    /// A client of the node leaves a name.
+    Leave { client: u32, name: Name },
+    /// A client of the node gives up a name for which it waits or is queued.
+    Cancel { client: u32, name: Name },
+    /// A frame comes.
+    Receive(Frame),
+    /// The node forgets names.
+    Forget,
 }
 
 /// An event of a node, and its clock (L. Lamport, CACM 21(7), 1978).

@@ -18,23 +18,23 @@ fn check_node(node: &Node, kind: &BookKind) -> Result<(), BookError>
     ensures { MatchResult result (λ _. MayTake node.now kind.now) (NodeRefuses node.now kind.now) }
 {
     match kind {
-        BookKind::Asked { client, name, .. } => Ok(node.may_ask(*client, name)?),
-        BookKind::Gave { client, name } => {
+        BookKind::Ask { client, name, .. } => Ok(node.may_ask(*client, name)?),
+        BookKind::Leave { client, name } => {
             if node.is_held_by(*client, name) {
                 Ok(())
             } else {
                 Err(BookError::NotHeld)
             }
         }
-        BookKind::Cancelled { client, name } => {
+        BookKind::Cancel { client, name } => {
             if node.is_kept_waiting(*client, name) {
                 Ok(())
             } else {
                 Err(BookError::NotWaiting)
             }
         }
-        BookKind::Got(frame) => Ok(node.check_address(&frame.message)?),
-        BookKind::Forgot => Ok(()),
+        BookKind::Receive(frame) => Ok(node.check_address(&frame.message)?),
+        BookKind::Forget => Ok(()),
     }
 }
 
@@ -59,9 +59,9 @@ pub fn check_event(node: &Node, clock: u64, kind: &BookKind) -> Result<u64, Book
 /// 1. `WrongNode`, `Stranger`: the node does not take it.
 /// 2. `Memory`: otherwise.
 pub fn room_refusal(node: &Node, frame: &Frame) -> BookError
-    ensures { IsRefusedWithClock node.now (kind.BookKind.Got frame.now) result }
+    ensures { IsRefusedWithClock node.now (kind.BookKind.Receive frame.now) result }
 {
-    if let Err(why) = check_node(node, &BookKind::Got(*frame)) {
+    if let Err(why) = check_node(node, &BookKind::Receive(*frame)) {
         return why;
     }
     BookError::Memory

@@ -24,11 +24,11 @@ pub fn clock_after(clock: u64, kind: &BookKind) -> Result<u64, BookError>
         (λ e. (e ≡ BookError.ClockFull) × (2 ^ 62 < history.clock_after clock kind.now)) }
 {
     let latest = match kind {
-        BookKind::Got(frame) => clock.max(frame.clock),
-        BookKind::Asked { .. }
-        | BookKind::Gave { .. }
-        | BookKind::Cancelled { .. }
-        | BookKind::Forgot => clock,
+        BookKind::Receive(frame) => clock.max(frame.clock),
+        BookKind::Ask { .. }
+        | BookKind::Leave { .. }
+        | BookKind::Cancel { .. }
+        | BookKind::Forget => clock,
     };
     if latest < Frame::MAX_CLOCK {
         Ok(latest + 1)

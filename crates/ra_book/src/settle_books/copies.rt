@@ -33,7 +33,7 @@ fn push_back(
     // Room for both comes first, so that no step is put whose repeat can't be.
     back.reserve(2)?;
     back.push_reserved(step_of(one.node, &one.event.kind));
-    let BookKind::Got(frame) = one.event.kind else {
+    let BookKind::Receive(frame) = one.event.kind else {
         return Ok(());
     };
     if later.insert((frame.clock, message_key(&frame.message)))? {

@@ -162,15 +162,15 @@ pub fn step_of(node: NodeId, kind: &BookKind) -> Step
     ensures { result ≡ step_at node kind.now }
 {
     match *kind {
-        BookKind::Asked { client, name, mode } => Step::Ask {
+        BookKind::Ask { client, name, mode } => Step::Ask {
             node,
             client,
             name,
             mode,
         },
-        BookKind::Gave { client, name } => Step::Leave { node, client, name },
-        BookKind::Cancelled { client, name } => Step::Cancel { node, client, name },
-        BookKind::Got(frame) => Step::Deliver(frame.message),
-        BookKind::Forgot => Step::Forget { node },
+        BookKind::Leave { client, name } => Step::Leave { node, client, name },
+        BookKind::Cancel { client, name } => Step::Cancel { node, client, name },
+        BookKind::Receive(frame) => Step::Deliver(frame.message),
+        BookKind::Forget => Step::Forget { node },
     }
 }

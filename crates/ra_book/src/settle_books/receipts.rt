@@ -42,7 +42,7 @@ pub fn were_sent(books: &[Book]) -> bool
     for book in books {
         let events = book.events().as_slice();
         for event in events {
-            if let BookKind::Got(frame) = &event.kind {
+            if let BookKind::Receive(frame) = &event.kind {
                 if !was_sent(books, frame) {
                     return false;
                 }
@@ -74,7 +74,7 @@ fn has_no_duplicates(alloc: Global, books: &[Book]) -> Result<bool, Memory>
     for book in books {
         let events = book.events().as_slice();
         for event in events {
-            if let BookKind::Got(frame) = &event.kind {
+            if let BookKind::Receive(frame) = &event.kind {
                 if !came.insert(message_key(&frame.message))? {
                     return Ok(false);
                 }

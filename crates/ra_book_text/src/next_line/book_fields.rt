@@ -23,17 +23,17 @@ pub fn ask_of(text: &[u8]) -> Option<BookKind>
     let (client, rest) = split_once(text, b' ')?;
     let client = client_of(client)?;
     let (name, mode) = name_and_mode_of(rest)?;
-    Some(BookKind::Asked { client, name, mode })
+    Some(BookKind::Ask { client, name, mode })
 }
 
 /// Reads the fields of a leave: client and name. It does not allocate.
-pub fn release_of(text: &[u8]) -> Option<BookKind>
-    ensures { result ≡ spec.release_of text.now }
+pub fn leave_of(text: &[u8]) -> Option<BookKind>
+    ensures { result ≡ spec.leave_of text.now }
 {
     let (client, name) = split_once(text, b' ')?;
     let client = client_of(client)?;
     let name = name_of(name)?;
-    Some(BookKind::Gave { client, name })
+    Some(BookKind::Leave { client, name })
 }
 
 /// Reads the fields of a cancel: client and name. It does not allocate.
@@ -43,7 +43,7 @@ pub fn cancel_of(text: &[u8]) -> Option<BookKind>
     let (client, name) = split_once(text, b' ')?;
     let client = client_of(client)?;
     let name = name_of(name)?;
-    Some(BookKind::Cancelled { client, name })
+    Some(BookKind::Cancel { client, name })
 }
 
 /// Reads how many nodes there are, and the number with which each resource begins. It does not allocate.

@@ -29,7 +29,7 @@ impl BookVersion {
         ensures { IsTrue result ↔ AllowsKind self kind.now }
     {
         match (self, kind) {
-            (BookVersion::One, BookKind::Cancelled { .. } | BookKind::Forgot) => false,
+            (BookVersion::One, BookKind::Cancel { .. } | BookKind::Forget) => false,
             _ => true,
         }
     }

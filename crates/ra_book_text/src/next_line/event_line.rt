@@ -5,7 +5,7 @@ ghost use Rattle.ra_book.specs.Timed.{CanCome};
 ghost use Rattle.ra_book_text.specs.declared.answering.line_refusal.Refusal.{Refusal};
 
 use crate::Refusal;
-use crate::next_line::book_fields::{ask_of, cancel_of, release_of};
+use crate::next_line::book_fields::{ask_of, cancel_of, leave_of};
 use ra_book::BookKind;
 use ra_frame::decode;
 use ra_trace::rest_after;
@@ -37,7 +37,7 @@ fn receive_line(digits: &[u8]) -> Result<BookKind, Refusal>
         return Err(Refusal::Hex);
     }
     match decode(bytes) {
-        Ok(frame) => Ok(BookKind::Got(frame)),
+        Ok(frame) => Ok(BookKind::Receive(frame)),
         Err(fault) => Err(Refusal::Frame(fault)),
     }
 }
@@ -52,7 +52,7 @@ fn later_event_of(line: &[u8]) -> Option<BookKind>
         return cancel_of(rest);
     }
     if line == b"forget".as_slice() {
-        return Some(BookKind::Forgot);
+        return Some(BookKind::Forget);
     }
     None
 }
@@ -80,7 +80,7 @@ pub fn event_of(line: &[u8]) -> Result<BookKind, Refusal>
     let read = if let Some(rest) = rest_after(b"ask ", line) {
         ask_of(rest)
     } else if let Some(rest) = rest_after(b"release ", line) {
-        release_of(rest)
+        leave_of(rest)
     } else {
         later_event_of(line)
     };

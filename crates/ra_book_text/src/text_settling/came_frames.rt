@@ -20,7 +20,7 @@ pub type CameList = Sequence<Came>;
 pub fn note(came: &mut CameList, line: u64, kind: &BookKind) -> Result<(), Memory>
     ensures { OnOk result (came.new.items ≡ came.old.items ++ came_by line kind.now) }
 {
-    if let BookKind::Got(frame) = kind {
+    if let BookKind::Receive(frame) = kind {
         let frame = *frame;
         came.push(Came { line, frame })?;
     }

@@ -16,23 +16,23 @@ pub fn record_event(alloc: Global, book: &mut Book, kind: &BookKind) -> Result<(
     ensures { Comes book.old kind.now book.new result }
 {
     match kind {
-        BookKind::Asked { client, name, mode } => {
+        BookKind::Ask { client, name, mode } => {
             book.ask(alloc, *client, *name, *mode)?;
             Ok(())
         }
-        BookKind::Gave { client, name } => {
+        BookKind::Leave { client, name } => {
             book.leave(alloc, *client, *name)?;
             Ok(())
         }
-        BookKind::Cancelled { client, name } => {
+        BookKind::Cancel { client, name } => {
             book.cancel(alloc, *client, *name)?;
             Ok(())
         }
-        BookKind::Forgot => {
+        BookKind::Forget => {
             book.forget(alloc)?;
             Ok(())
         }
-        BookKind::Got(frame) => {
+        BookKind::Receive(frame) => {
             // For the proof: the bytes of a frame are read as this frame.
             round_trip();
             let bytes = encoded(frame);

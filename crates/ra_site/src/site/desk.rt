@@ -4,7 +4,7 @@ ghost use Rattle.std.specs.Option.{ForSome};
 ghost use Rattle.ra_frame.specs.Fits.{Fits};
 ghost use Rattle.ra_book.specs.History.{clock_of};
 ghost use Rattle.ra_book.specs.Book.{with_all_taken, Adds, IsFirst, Loses};
-ghost use Rattle.ra_book.specs.declared.book.event.BookKind.TheVariants.{Asked, Gave, Cancelled, Forgot};
+ghost use Rattle.ra_book.specs.declared.book.event.BookKind.TheVariants.{Ask, Leave, Cancel, Forget};
 ghost use Rattle.ra_book.specs.Keeping.{RefusesAsk, RefusesLeave, RefusesCancel};
 ghost use Rattle.ra_book.specs.declared.error.BookError.{BookError};
 ghost use Rattle.ra_book.specs.declared.book.grant.Grant as granted;
@@ -104,7 +104,7 @@ impl Desk {
         ticket: Option<&SharedTicket>,
     ) -> Result<Stepped, SiteError>
         ensures made { IfOk result
-            (λ stepped. (marks : List mark.Mark) × Adds self.old.book (Asked request.now.client request.now.name request.now.mode) stepped.frames.items marks
+            (λ stepped. (marks : List mark.Mark) × Adds self.old.book (Ask request.now.client request.now.name request.now.mode) stepped.frames.items marks
             self.new.book) }
         ensures given { IfOk result
             (λ stepped. IfSome stepped.told (λ told. Gives self.old.book self.new.book told.1)) }
@@ -162,7 +162,7 @@ impl Desk {
         name: Name,
     ) -> Result<Stepped, SiteError>
         ensures made { IfOk result
-            (λ stepped. (marks : List mark.Mark) × Adds self.old.book (Gave client name) stepped.frames.items marks
+            (λ stepped. (marks : List mark.Mark) × Adds self.old.book (Leave client name) stepped.frames.items marks
             self.new.book) }
         ensures given { IfOk result
             (λ stepped. IfSome stepped.told (λ told. Gives self.old.book self.new.book told.1)) }
@@ -195,7 +195,7 @@ impl Desk {
         name: Name,
     ) -> Result<Stepped, SiteError>
         ensures made { IfOk result
-            (λ stepped. (marks : List mark.Mark) × Adds self.old.book (Cancelled client name) stepped.frames.items marks
+            (λ stepped. (marks : List mark.Mark) × Adds self.old.book (Cancel client name) stepped.frames.items marks
             self.new.book) }
         ensures given { IfOk result
             (λ stepped. IfSome stepped.told (λ told. Gives self.old.book self.new.book told.1)) }
@@ -230,7 +230,7 @@ impl Desk {
     ) -> Result<Stepped, SiteError>
         ensures made { IfOk result
             (λ stepped. (marks : List mark.Mark)
-            × Adds self.old.book (Cancelled request.now.client request.now.name) stepped.frames.items marks
+            × Adds self.old.book (Cancel request.now.client request.now.name) stepped.frames.items marks
             self.new.book) }
         ensures given { IfOk result
             (λ stepped. IfSome stepped.told (λ told. Gives self.old.book self.new.book told.1)) }
@@ -256,7 +256,7 @@ impl Desk {
         node: NodeId,
         gate: &G,
     ) -> Result<(), SiteError>
-        ensures { OnOk result (Adds self.old.book Forgot [] [] self.new.book) }
+        ensures { OnOk result (Adds self.old.book Forget [] [] self.new.book) }
     {
         if !gate.step(node) {
             return Err(SiteError::Stopped(Stop::Gate));

@@ -1,34 +1,34 @@
 use Rattle.std.proofs.Common.{ap}
 use Rattle.ra_text.specs.Lines.{field}
 use Rattle.ra_text.proofs.Drafts.{adds_as, adds_both}
-use Rattle.ra_book_text.proofs.WrittenLines.{asked_line, gave_line, cancelled_line, forgot_line}
+use Rattle.ra_book_text.proofs.WrittenLines.{ask_line, leave_line, cancel_line, forget_line}
 use Rattle.ra_book_text.proofs.book_writing.push_event.Goals as goal
 
-pub returns-in-Asked : goal.returns-in-Asked
-returns-in-Asked c =
+pub returns-in-Ask : goal.returns-in-Ask
+returns-in-Ask c =
     let fits = c.push_client.ensures.fits in
-    rw c.in-Asked.is (
+    rw c.in-Ask.is (
       _,
-      asked_line c.in-Asked.client c.in-Asked.name c.in-Asked.mode fits.0 fits.1,
+      ask_line c.in-Ask.client c.in-Ask.name c.in-Ask.mode fits.0 fits.1,
       adds_both (adds_both c.push_client.ensures.text (adds_as c.push_field.ensures (ap field c.word.ensures))) c.end_line.ensures,
     )
 
-pub returns-in-Gave : goal.returns-in-Gave
-returns-in-Gave c =
-    let fits = c.push_client-in-Gave.ensures.fits in
-    rw c.in-Gave.is (_, gave_line c.in-Gave.client c.in-Gave.name fits.0 fits.1, adds_both c.push_client-in-Gave.ensures.text c.end_line-in-Gave.ensures)
+pub returns-in-Leave : goal.returns-in-Leave
+returns-in-Leave c =
+    let fits = c.push_client-in-Leave.ensures.fits in
+    rw c.in-Leave.is (_, leave_line c.in-Leave.client c.in-Leave.name fits.0 fits.1, adds_both c.push_client-in-Leave.ensures.text c.end_line-in-Leave.ensures)
 
-pub returns-in-Cancelled : goal.returns-in-Cancelled
-returns-in-Cancelled c =
-    let fits = c.push_client-in-Cancelled.ensures.fits in
-    rw c.in-Cancelled.is (
+pub returns-in-Cancel : goal.returns-in-Cancel
+returns-in-Cancel c =
+    let fits = c.push_client-in-Cancel.ensures.fits in
+    rw c.in-Cancel.is (
       _,
-      cancelled_line c.in-Cancelled.client c.in-Cancelled.name fits.0 fits.1,
-      adds_both c.push_client-in-Cancelled.ensures.text c.end_line-in-Cancelled.ensures,
+      cancel_line c.in-Cancel.client c.in-Cancel.name fits.0 fits.1,
+      adds_both c.push_client-in-Cancel.ensures.text c.end_line-in-Cancel.ensures,
     )
 
-pub returns-in-Forgot : goal.returns-in-Forgot
-returns-in-Forgot c = rw c.in-Forgot.is (_, forgot_line, adds_both c.push.ensures c.end_line-in-Forgot.ensures)
+pub returns-in-Forget : goal.returns-in-Forget
+returns-in-Forget c = rw c.in-Forget.is (_, forget_line, adds_both c.push.ensures c.end_line-in-Forget.ensures)
 
-pub returns-in-Got : goal.returns-in-Got
-returns-in-Got c = rw c.in-Got.is c.push_frame.ensures
+pub returns-in-Receive : goal.returns-in-Receive
+returns-in-Receive c = rw c.in-Receive.is c.push_frame.ensures

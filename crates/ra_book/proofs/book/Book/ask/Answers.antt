@@ -1,7 +1,7 @@
 use Rattle.std.proofs.Common.{◌+◌, List, ◌∷◌, [], ◌++◌, length, refl, ap, ◌∙◌, subst}
 use Rattle.ra_node.proofs.Counts.{ask_counts}
 use Rattle.ra_book.specs.declared.book.departure.Departure.{Departure}
-use Rattle.ra_book.specs.declared.book.event.BookKind.TheVariants.{Asked}
+use Rattle.ra_book.specs.declared.book.event.BookKind.TheVariants.{Ask}
 use Rattle.ra_book.specs.Book.{BookState}
 use Rattle.ra_book.specs.Keeping.{RefusesAsk, book_of}
 use Rattle.ra_book.proofs.Kept.{history_of}
@@ -97,14 +97,14 @@ keep-requires c =
     let outcome = c.in_ok-outcome.outcome in
     let nodes = c.self.inside.nodes in
     room_for_event nodes nodes (length c.self.inside.departures.items + 1) _ _ _ c.in-Ok.frames c.in-Ok.ensures.room (length outcome.sends.items)
-    (kept_histories_go_on.few (book_of c.self.inside) c.self.inside.node c.ask.new.self (Asked c.args.client c.args.name c.args.mode) outcome.sends.items
+    (kept_histories_go_on.few (book_of c.self.inside) c.self.inside.node c.ask.new.self (Ask c.args.client c.args.name c.args.mode) outcome.sends.items
     outcome.marks.items c.self.invariant.keeps c.in_ok-outcome.ensures.ok)
 
 pub invariant_of-self-2 : goal.invariant_of-self-2
 invariant_of-self-2 c =
     let now = c.args.self.now in
     let book = book_of c.self.inside in
-    let kind = Asked c.args.client c.args.name c.args.mode in
+    let kind = Ask c.args.client c.args.name c.args.mode in
     let old = c.self.inside.node in
     let new = c.ask.new.self in
     let keeps = c.self.invariant.keeps in
@@ -132,7 +132,7 @@ returns c =
     let book = book_of c.self.inside in
     let old = c.self.inside.node in
     let new = c.ask.new.self in
-    let kind = Asked c.args.client c.args.name c.args.mode in
+    let kind = Ask c.args.client c.args.name c.args.mode in
     let clock = c.in-Some.clock in
     let next = c.in-Some.ensures in
     let comes = comes_as now kind clock next tt in

@@ -2,7 +2,7 @@ use Rattle.std.proofs.Common.{length, vec_len, vec_capacity, refl, sym, subst, a
 use Rattle.ra_node.specs.Room.{HasRoomToLeave}
 use Rattle.ra_node.proofs.Counts.{cancel_counts, kept_waiting_counts}
 use Rattle.ra_book.specs.declared.error.BookError.TheVariants.{NotWaiting, Memory}
-use Rattle.ra_book.specs.declared.book.event.BookKind.TheVariants.{Cancelled}
+use Rattle.ra_book.specs.declared.book.event.BookKind.TheVariants.{Cancel}
 use Rattle.ra_book.specs.Keeping.{book_of}
 use Rattle.ra_book.proofs.Departing.{passed_memory, is_no_refusal, reserved_left, reserved_grown, taken_out, cancel_not_refused, is_not_waiting, put_back, still_empty, no_less, room_to_leave}
 use Rattle.ra_book.proofs.Kept.{history_of}
@@ -26,7 +26,7 @@ keep-requires c =
     room_to_leave nodes (length outcome.sends.items) departures c.pop.new.self.items c.in-Some.departure c.self.inside.events.spare (vec_len sent)
     (vec_capacity sent) c.in-Some.ensures.items
     (taken_out nodes departures c.pop.new.self.items c.in-Some.departure c.in-Some.ensures.items c.self.invariant.reserved.each) c.self.invariant.reserved.room
-    (kept_histories_go_on.few (book_of c.self.inside) c.self.inside.node c.cancel_into.new.self (Cancelled c.args.client c.args.name) outcome.sends.items
+    (kept_histories_go_on.few (book_of c.self.inside) c.self.inside.node c.cancel_into.new.self (Cancel c.args.client c.args.name) outcome.sends.items
     outcome.marks.items c.self.invariant.keeps c.in-Ok.ensures.cancelled.ok)
 
 -- ---- It is refused
@@ -137,7 +137,7 @@ returns-in_default-cancel_into c =
 pub invariant_of-self-2 : goal.invariant_of-self-2
 invariant_of-self-2 c =
     let book = book_of c.self.inside in
-    let kind = Cancelled c.args.client c.args.name in
+    let kind = Cancel c.args.client c.args.name in
     let old = c.self.inside.node in
     let new = c.cancel_into.new.self in
     let keeps = c.self.invariant.keeps in
@@ -156,7 +156,7 @@ pub returns : goal.returns
 returns c =
     let now = c.args.self.now in
     let node = c.self.inside.node in
-    let kind = Cancelled c.args.client c.args.name in
+    let kind = Cancel c.args.client c.args.name in
     let next = c.in_ok-clock.ensures.checked.next in
     let comes = comes_as now kind c.in_ok-clock.clock next tt in
     let events = c.keep.new.events.items in

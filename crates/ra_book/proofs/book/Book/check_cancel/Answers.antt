@@ -1,4 +1,4 @@
-use Rattle.ra_book.specs.declared.book.event.BookKind.TheVariants.{Cancelled}
+use Rattle.ra_book.specs.declared.book.event.BookKind.TheVariants.{Cancel}
 use Rattle.ra_book.specs.Keeping.{book_of}
 use Rattle.ra_book.proofs.Kept.{history_of}
 use Rattle.ra_book.proofs.Running.{runs_is, some_fault, no_fault, checked_failed, clock_checked, event_checked, cancel_failed, cancel_checked}
@@ -13,13 +13,13 @@ returns-then-is_some-clause-refused c = cancel_failed c.args.self.now c.args.cli
 
 pub returns-clause-checked : goal.returns-clause-checked
 returns-clause-checked c =
-    clock_checked c.args.self.now c.clock-latest.result (Cancelled c.args.client c.args.name)
+    clock_checked c.args.self.now c.clock-latest.result (Cancel c.args.client c.args.name)
     (history_of c.args.self.now _ _ c.self.invariant.keeps c.self.view_is) (no_fault c.self.view_is c.if-is_some.ensures) c.clock-latest.ensures.value
     c.in-Ok.clock c.in-Ok.ensures
 
 pub returns-in_default-clause-checked : goal.returns-in_default-clause-checked
 returns-in_default-clause-checked c =
-    event_checked c.args.self.now c.self.inside.node c.clock-latest.result (Cancelled c.args.client c.args.name)
+    event_checked c.args.self.now c.self.inside.node c.clock-latest.result (Cancel c.args.client c.args.name)
     (history_of c.args.self.now _ _ c.self.invariant.keeps c.self.view_is) (no_fault c.self.view_is c.if-is_some.ensures) c.clock-latest.ensures.value
     c.check_event.result c.check_event.ensures.no_memory c.check_event.ensures.checked
 

@@ -1,4 +1,4 @@
-use Rattle.ra_book.specs.declared.book.event.BookKind.TheVariants.{Gave}
+use Rattle.ra_book.specs.declared.book.event.BookKind.TheVariants.{Leave}
 use Rattle.ra_book.specs.Keeping.{book_of}
 use Rattle.ra_book.proofs.Kept.{history_of}
 use Rattle.ra_book.proofs.Running.{runs_is, some_fault, no_fault, checked_failed, clock_checked, event_checked, leave_failed, leave_checked}
@@ -13,13 +13,13 @@ returns-then-is_some-clause-refused c = leave_failed c.args.self.now c.args.clie
 
 pub returns-in-Ok-clause-checked : goal.returns-in-Ok-clause-checked
 returns-in-Ok-clause-checked c =
-    clock_checked c.args.self.now c.clock-latest.result (Gave c.args.client c.args.name)
+    clock_checked c.args.self.now c.clock-latest.result (Leave c.args.client c.args.name)
     (history_of c.args.self.now _ _ c.self.invariant.keeps c.self.view_is) (no_fault c.self.view_is c.if-is_some.ensures) c.clock-latest.ensures.value
     c.in-Ok.clock c.in-Ok.ensures
 
 pub returns-in-Err-clause-checked : goal.returns-in-Err-clause-checked
 returns-in-Err-clause-checked c =
-    event_checked c.args.self.now c.self.inside.node c.clock-latest.result (Gave c.args.client c.args.name)
+    event_checked c.args.self.now c.self.inside.node c.clock-latest.result (Leave c.args.client c.args.name)
     (history_of c.args.self.now _ _ c.self.invariant.keeps c.self.view_is) (no_fault c.self.view_is c.if-is_some.ensures) c.clock-latest.ensures.value
     c.check_event.result c.check_event.ensures.no_memory c.check_event.ensures.checked
 

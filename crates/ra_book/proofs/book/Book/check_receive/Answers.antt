@@ -1,6 +1,6 @@
 use Rattle.std.proofs.Common.{◌≡◌, None, Err, refl}
 use Rattle.ra_book.specs.declared.error.BookError.TheVariants.{Frame}
-use Rattle.ra_book.specs.declared.book.event.BookKind.TheVariants.{Got}
+use Rattle.ra_book.specs.declared.book.event.BookKind.TheVariants.{Receive}
 use Rattle.ra_book.specs.History.{clock_of}
 use Rattle.ra_book.specs.Book.{whole_events}
 use Rattle.ra_book.specs.Keeping.{book_of}
@@ -55,7 +55,7 @@ returns c =
     let now = c.args.self.now in
     let frame = c.in-Ok.frame in
     let none : now.fault ≡ None = no_fault c.self.view_is c.if-is_some.ensures in
-    let comes = clock_checked now c.clock-latest.result (Got frame) (history_of now _ _ c.self.invariant.keeps c.self.view_is) none c.clock-latest.ensures.value
+    let comes = clock_checked now c.clock-latest.result (Receive frame) (history_of now _ _ c.self.invariant.keeps c.self.view_is) none c.clock-latest.ensures.value
     c.in-Ok-clock_after.clock c.in-Ok-clock_after.ensures
     in
     let read = one_frame c.args.bytes.now c.decode.result frame c.in-Ok.is c.in-Ok.ensures.found c.in-Ok.ensures.fits c.decode.ensures.only c.decode.ensures.fault in

@@ -1,7 +1,7 @@
 use Rattle.std.proofs.Common.{◌≡◌, ℕ, ◌+◌, ◌≤◌, List, ◌++◌, ◌∷◌, [], length, refl, ap, ◌∙◌, arith}
 use Rattle.ra_node.proofs.Forgetting.{forget_counts}
 use Rattle.ra_book.specs.declared.book.event.BookEvent.{BookEvent}
-use Rattle.ra_book.specs.declared.book.event.BookKind.TheVariants.{Forgot}
+use Rattle.ra_book.specs.declared.book.event.BookKind.TheVariants.{Forget}
 use Rattle.ra_book.specs.Keeping.{book_of}
 use Rattle.ra_book.specs.Book.{next_clock}
 use Rattle.ra_book.proofs.Kept.{history_of}
@@ -14,13 +14,13 @@ pub returns-then-is_some-clause-history : goal.returns-then-is_some-clause-histo
 returns-then-is_some-clause-history c = history_of c.args.self.now _ _ c.self.invariant.keeps c.self.view_is
 
 -- the event is put after the others
-put : (c : goal.After-unwrap) → c.push.new.self.items ≡ c.self.inside.events.items ++ record { clock = c.in_ok-clock.clock; kind = Forgot } ∷ []
+put : (c : goal.After-unwrap) → c.push.new.self.items ≡ c.self.inside.events.items ++ record { clock = c.in_ok-clock.clock; kind = Forget } ∷ []
 put c =
-    let event : BookEvent = record { clock = c.in_ok-clock.clock; kind = Forgot } in
+    let event : BookEvent = record { clock = c.in_ok-clock.clock; kind = Forget } in
     (rw c.unwrap.ensures at c.push.ensures.ok) ∙ ap (λ (events : List BookEvent). events ++ event ∷ []) c.in-Ok.ensures.same
 
 -- at the next clock
-comes : (c : goal.After-unwrap) → c.in_ok-clock.clock ≡ next_clock c.args.self.now Forgot
+comes : (c : goal.After-unwrap) → c.in_ok-clock.clock ≡ next_clock c.args.self.now Forget
 comes c = omega (arith, c.in_ok-clock.ensures.0, c.clock.ensures.value)
 
 pub invariant_of-self-2 : goal.invariant_of-self-2

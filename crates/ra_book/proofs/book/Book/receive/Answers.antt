@@ -1,6 +1,6 @@
 use Rattle.std.proofs.Common.{◌≤◌, ℕ, Ok, length, vec_len, vec_capacity, refl, sym, subst, ◌∙◌}
 use Rattle.ra_node.proofs.Counts.{receive_counts}
-use Rattle.ra_book.specs.declared.book.event.BookKind.TheVariants.{Got}
+use Rattle.ra_book.specs.declared.book.event.BookKind.TheVariants.{Receive}
 use Rattle.ra_book.specs.Departures.{HasRoomFor}
 use Rattle.ra_book.specs.Keeping.{book_of}
 use Rattle.ra_book.proofs.Kept.{history_of}
@@ -109,7 +109,7 @@ keep-requires c =
     let outcome = c.in_ok-outcome.outcome in
     room_for_event c.self.inside.nodes c.answers_to-sends.result c.len-leaves.result _ _ _ c.in-Ok.frames c.in-Ok.ensures.room (length outcome.sends.items)
     (subst (λ (n : ℕ). length outcome.sends.items ≤ n) (sym c.answers_to-sends.ensures)
-    (kept_histories_go_on.few (book_of c.self.inside) c.self.inside.node c.receive.new.self (Got c.in_ok-frame.frame) outcome.sends.items outcome.marks.items
+    (kept_histories_go_on.few (book_of c.self.inside) c.self.inside.node c.receive.new.self (Receive c.in_ok-frame.frame) outcome.sends.items outcome.marks.items
     c.self.invariant.keeps c.in_ok-outcome.ensures.ok))
 
 pub invariant_of-self-2 : goal.invariant_of-self-2
@@ -126,13 +126,13 @@ invariant_of-self-2 c =
     let for_it = for_book book c.args.self.now old frame (kept_histories_go_on.node book old keeps) c.self.view_is (c.in_ok-outcome.ensures.allowed.0 tt) in
     let happened = c.in_ok-outcome.ensures.ok in
     let few = subst (λ (n : ℕ). length outcome.sends.items ≤ n) (sym c.answers_to-sends.ensures)
-    (kept_histories_go_on.few book old new (Got frame) outcome.sends.items outcome.marks.items keeps happened)
+    (kept_histories_go_on.few book old new (Receive frame) outcome.sends.items outcome.marks.items keeps happened)
     in
     let count = receive_counts old new frame.message outcome.sends.items outcome.marks.items happened in
     let room = room_after nodes c.answers_to-sends.result c.len-leaves.result _ _ _ c.in-Ok.frames c.in-Ok.ensures.room (length outcome.sends.items) few _ _ _ c.keep.ensures.used in
     record {
-      keeps = adding.kept_after c.args.self.now book old new c.in_ok-frame.clock (Got frame) c.keep.new.events.items c.keep.new.sent.items keeps c.self.view_is
-          (comes_as c.args.self.now (Got frame) c.in_ok-frame.clock next.1 (for_it, next.0.fits)) kept_histories_go_on.node kept_histories_go_on.event c.keep.result
+      keeps = adding.kept_after c.args.self.now book old new c.in_ok-frame.clock (Receive frame) c.keep.new.events.items c.keep.new.sent.items keeps c.self.view_is
+          (comes_as c.args.self.now (Receive frame) c.in_ok-frame.clock next.1 (for_it, next.0.fits)) kept_histories_go_on.node kept_histories_go_on.event c.keep.result
           (adding.happens_after c.make_room-room.ensures.events c.make_room-room.ensures.sent (c.keep.ensures.kept old new happened));
       reserved = reserved_still nodes old new _ _ _ _ _ _ departures.items c.self.invariant.reserved count
           (subst (λ (k : ℕ). HasRoomFor nodes k c.keep.new.events.spare (vec_len c.keep.new.sent) (vec_capacity c.keep.new.sent))
@@ -153,16 +153,16 @@ returns c =
     let same = kept_histories_go_on.node book node c.self.invariant.keeps in
     let allowed = c.in_ok-outcome.ensures.allowed.0 tt in
     let made = frame_taken node book now c.args.bytes.now next.1.no_fault frame next.0 same c.self.view_is c.in_ok-frame.clock next.1 (Ok posted) tt allowed in
-    let comes = comes_as now (Got frame) c.in_ok-frame.clock next.1 (for_book book now node frame same c.self.view_is allowed, next.0.fits) in
+    let comes = comes_as now (Receive frame) c.in_ok-frame.clock next.1 (for_book book now node frame same c.self.view_is allowed, next.0.fits) in
     record {
       ok = (
         frame,
         next.0.text,
-        adding.added now (book_of c.self.inside) node c.receive.new.self c.in_ok-frame.clock (Got frame) events sent c.self.invariant.keeps
+        adding.added now (book_of c.self.inside) node c.receive.new.self c.in_ok-frame.clock (Receive frame) events sent c.self.invariant.keeps
             c.self.view_is comes kept_histories_go_on.node posted happens,
       );
       history = history_of _ _ _ (invariant_of-self-2 c).keeps refl;
-      fits = adding.added_fits now (book_of c.self.inside) node c.receive.new.self c.in_ok-frame.clock (Got frame) events sent c.self.invariant.keeps c.self.view_is comes
+      fits = adding.added_fits now (book_of c.self.inside) node c.receive.new.self c.in_ok-frame.clock (Receive frame) events sent c.self.invariant.keeps c.self.view_is comes
           kept_histories_go_on.node kept_histories_go_on.fit posted happens;
       failed = made.failed;
       frame = made.frame;

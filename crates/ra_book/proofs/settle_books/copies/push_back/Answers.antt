@@ -23,7 +23,7 @@ put_one back steps one step same is = ap (λ (ss : List Step). ss ++ one ∷ [])
 pub returns-in_default : goal.returns-in_default
 returns-in_default c placed has done =
     let p = placed_at c.args.one.now in
-    let none = none_by p.event.kind c.in_default.not-Got in
+    let none = none_by p.event.kind c.in_default.not-Receive in
     let are = c.push_reserved.ensures.items ∙ put_one _ c.args.back.now.items _ _ c.reserve.ensures.items c.step_of.ensures in (
       come_same c.args.later.now p placed none has,
       subst (λ (ss : List Step). AreWithCopies (p ∷ placed) (reverse ss)) (sym are) (none_in_front p placed c.args.back.now.items none done),
@@ -33,27 +33,27 @@ pub returns-then-branch : goal.returns-then-branch
 returns-then-branch c placed has done =
     let p = placed_at c.args.one.now in
     let old = c.args.later.now in
-    let f = c.in-Got.frame in
-    let is_new = subst (λ (k : FrameKey). sorted.contains frame_cmp old k ≡ false) (key_is c.in-Got.frame c.message_key.result c.message_key.ensures) (when_new _ _ c.in_ok-insert.ensures.added c.if-branch.true) in
-    let put = subst (λ (k : FrameKey). sorted.Updates frame_cmp old c.insert.new.self k true) (key_is c.in-Got.frame c.message_key.result c.message_key.ensures) c.in_ok-insert.ensures.updates in
+    let f = c.in-Receive.frame in
+    let is_new = subst (λ (k : FrameKey). sorted.contains frame_cmp old k ≡ false) (key_is c.in-Receive.frame c.message_key.result c.message_key.ensures) (when_new _ _ c.in_ok-insert.ensures.added c.if-branch.true) in
+    let put = subst (λ (k : FrameKey). sorted.Updates frame_cmp old c.insert.new.self k true) (key_is c.in-Receive.frame c.message_key.result c.message_key.ensures) c.in_ok-insert.ensures.updates in
     let are = c.push_reserved.ensures.items ∙ put_one _ c.args.back.now.items _ _ c.reserve.ensures.items c.step_of.ensures in (
-      come_more old c.insert.new.self p placed f c.in-Got.is has put,
+      come_more old c.insert.new.self p placed f c.in-Receive.is has put,
       subst (λ (ss : List Step). AreWithCopies (p ∷ placed) (reverse ss)) (sym are)
-          (last_in_front p placed c.args.back.now.items f c.in-Got.is (comes_not old placed f has is_new) done),
+          (last_in_front p placed c.args.back.now.items f c.in-Receive.is (comes_not old placed f has is_new) done),
     )
 
 pub returns : goal.returns
 returns c placed has done =
     let p = placed_at c.args.one.now in
     let old = c.args.later.now in
-    let f = c.in-Got.frame in
-    let is_old = subst (λ (k : FrameKey). sorted.contains frame_cmp old k ≡ true) (key_is c.in-Got.frame c.message_key.result c.message_key.ensures) (when_old _ _ c.in_ok-insert.ensures.added c.if-branch.false) in
-    let put = subst (λ (k : FrameKey). sorted.Updates frame_cmp old c.insert.new.self k true) (key_is c.in-Got.frame c.message_key.result c.message_key.ensures) c.in_ok-insert.ensures.updates in
+    let f = c.in-Receive.frame in
+    let is_old = subst (λ (k : FrameKey). sorted.contains frame_cmp old k ≡ true) (key_is c.in-Receive.frame c.message_key.result c.message_key.ensures) (when_old _ _ c.in_ok-insert.ensures.added c.if-branch.false) in
+    let put = subst (λ (k : FrameKey). sorted.Updates frame_cmp old c.insert.new.self k true) (key_is c.in-Receive.frame c.message_key.result c.message_key.ensures) c.in_ok-insert.ensures.updates in
     let one = c.push_reserved.ensures.items ∙ put_one _ c.args.back.now.items _ _ c.reserve.ensures.items c.step_of.ensures in
     let are : c.push_reserved-2.new.self.items ≡ (c.args.back.now.items ++ step_at p.node p.event.kind ∷ []) ++ Repeat f.message ∷ [] =
     c.push_reserved-2.ensures.items ∙ ap (λ (ss : List Step). ss ++ Repeat f.message ∷ []) one
     in (
-      come_more old c.insert.new.self p placed f c.in-Got.is has put,
+      come_more old c.insert.new.self p placed f c.in-Receive.is has put,
       subst (λ (ss : List Step). AreWithCopies (p ∷ placed) (reverse ss)) (sym are)
-          (copy_in_front p placed c.args.back.now.items f c.in-Got.is (comes old placed f has is_old) done),
+          (copy_in_front p placed c.args.back.now.items f c.in-Receive.is (comes old placed f has is_old) done),
     )

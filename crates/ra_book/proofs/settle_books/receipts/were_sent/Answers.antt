@@ -8,15 +8,15 @@ use Rattle.ra_frame.specs.declared.frame.Frame.{Frame}
 use Rattle.ra_book.specs.declared.book.event.BookEvent.{BookEvent}
 use Rattle.ra_book.specs.Book.{BookState}
 use Rattle.ra_book.specs.Settled.{WasSent, received_among, all_received}
-use Rattle.ra_book.proofs.Received.{all_more, all_in_got, all_in_none, some_got, some_at, all_received_more}
+use Rattle.ra_book.proofs.Received.{all_more, all_in_received, all_in_none, some_received, some_at, all_received_more}
 use Rattle.ra_book.proofs.settle_books.receipts.were_sent.Goals as goal
-use Rattle.ra_book.proofs.settle_books.receipts.were_sent.Goals.{in-Got+else-not-was_sent, in_default}
+use Rattle.ra_book.proofs.settle_books.receipts.were_sent.Goals.{in-Receive+else-not-was_sent, in_default}
 
 pub returns-then-not-was_sent : goal.returns-then-not-was_sent
 returns-then-not-was_sent c =
     let Q = λ (f : Frame). WasSent c.args.books.now f → ⊥ in
     let here =
-    some_got Q c.as_slice-events.result.now c.loop-event.event-index c.event-item.result c.in-Got.frame c.loop-event-test.true c.event-item.is c.in-Got.is
+    some_received Q c.as_slice-events.result.now c.loop-event.event-index c.event-item.result c.in-Receive.frame c.loop-event-test.true c.event-item.is c.in-Receive.is
     (λ sent. false≢true (sym c.if-not-was_sent.true ∙ c.was_sent.ensures.1 sent))
     in
     some_at Q c.args.books.now c.loop-book.book-index c.book-item.result c.loop-book-test.true c.book-item.is
@@ -27,8 +27,8 @@ loop-event-preserved c =
     let P = λ (f : Frame). WasSent c.args.books.now f in
     all_more P c.as_slice-events.result.now c.loop-event.event-index c.event-item.result c.loop-event-test.true c.event-item.is c.loop-event.invariant
     (elim c.match-event.branch [
-      | in-Got+else-not-was_sent w ↦ all_in_got P c.event-item.result.kind w.in-Got.frame w.in-Got.is (w.was_sent.ensures.0 w.if-not-was_sent.false)
-      | in_default w ↦ all_in_none P c.event-item.result.kind w.in_default.not-Got
+      | in-Receive+else-not-was_sent w ↦ all_in_received P c.event-item.result.kind w.in-Receive.frame w.in-Receive.is (w.was_sent.ensures.0 w.if-not-was_sent.false)
+      | in_default w ↦ all_in_none P c.event-item.result.kind w.in_default.not-Receive
     ])
 
 pub loop-book-preserved : goal.loop-book-preserved

@@ -1,6 +1,6 @@
 use Rattle.std.proofs.Common.{codes, sym, ◌∙◌}
 use Rattle.ra_trace.proofs.Cuts.{rest_after-only}
-use Rattle.ra_book_text.proofs.Forms.{ask_some, ask_none, release_some, release_none, no_words}
+use Rattle.ra_book_text.proofs.Forms.{ask_some, ask_none, leave_some, leave_none, no_words}
 use Rattle.ra_book_text.proofs.next_line.event_line.event_of.Goals as goal
 use Rattle.ra_book_text.proofs.next_line.event_line.event_of.Goals.{in-Some-rest_after, in_default-rest_after+in-Some-rest_after-2, in_default-rest_after+in_default-rest_after-2}
 
@@ -20,7 +20,7 @@ returns-in-Some-read-clause-read c =
           (rest_after-only (codes "ask ") line rest (rw w.in-Some-rest_after.is at c.rest_after-2.ensures)) c.if-line-gt-MAX_LINE.false
       | in_default-rest_after+in-Some-rest_after-2 w ↦
           let rest = w.in-Some-rest_after-2.rest.now in
-          release_some rest kind (sym w.release_of.ensures ∙ sym w.read-is ∙ c.in-Some-read.is) line
+          leave_some rest kind (sym w.leave_of.ensures ∙ sym w.read-is ∙ c.in-Some-read.is) line
           (rest_after-only (codes "release ") line rest (rw w.in-Some-rest_after-2.is at w.rest_after-in_default-rest_after.ensures)) c.if-line-gt-MAX_LINE.false
       | in_default-rest_after+in_default-rest_after-2 w ↦ rw (sym w.read-is ∙ c.in-Some-read.is) at w.later_event_of.ensures
     ]
@@ -35,7 +35,7 @@ returns-in-None-clause-read c =
           (rest_after-only (codes "ask ") line rest (rw w.in-Some-rest_after.is at c.rest_after-2.ensures))
       | in_default-rest_after+in-Some-rest_after-2 w ↦
           let rest = w.in-Some-rest_after-2.rest.now in
-          release_none rest (sym w.release_of.ensures ∙ sym w.read-is ∙ c.in-None.is) line
+          leave_none rest (sym w.leave_of.ensures ∙ sym w.read-is ∙ c.in-None.is) line
           (rest_after-only (codes "release ") line rest (rw w.in-Some-rest_after-2.is at w.rest_after-in_default-rest_after.ensures))
       | in_default-rest_after+in_default-rest_after-2 w ↦
           no_words line (rw c.in_default.is at c.rest_after.ensures) (rw w.in_default-rest_after.is at c.rest_after-2.ensures)

@@ -1,6 +1,6 @@
 use Rattle.std.proofs.Common.{lit<, ◌≡◌, ◌++◌, ◌∷◌, [], List, length, Err, refl, ap, ◌∙◌}
 use Rattle.ra_stamp.specs.declared.message.Message.{Message}
-use Rattle.ra_node.specs.Events.Event.{Ask as AskedFor}
+use Rattle.ra_node.specs.Events.{Event as acts}
 use Rattle.ra_node.proofs.EventsKept.{event_room}
 use Rattle.ra_world.specs.Traffic.{Move}
 use Rattle.ra_world.specs.Trying.{TriesAt}
@@ -15,7 +15,7 @@ returns-in_err-may_ask g c =
     let old = c.args.node.now in
     let kept = c.args.kept.now in
     at_err c.from_residual.result (λ e. e ≡ refusal_of_ask c.in_err-may_ask.field-0.0)
-    (λ q. TriesAt c.args.step.now (AskedFor c.args.client c.args.name.now c.args.mode) old kept q old c.make_room.new.self) c.from_residual.ensures.1
+    (λ q. TriesAt c.args.step.now (acts.Ask c.args.client c.args.name.now c.args.mode) old kept q old c.make_room.new.self) c.from_residual.ensures.1
     (λ e is. (
       refl,
       c.make_room.ensures.messages,
@@ -32,7 +32,7 @@ returns-in_err-outcome g c =
     let old = c.args.node.now in
     let kept = c.args.kept.now in
     at_err c.from_residual-in_err-outcome.result (λ e. e ≡ refusal_of_ask c.in_err-outcome.field-0.0)
-    (λ q. TriesAt c.args.step.now (AskedFor c.args.client c.args.name.now c.args.mode) old kept q c.ask.new.self c.make_room.new.self) c.from_residual-in_err-outcome.ensures.1
+    (λ q. TriesAt c.args.step.now (acts.Ask c.args.client c.args.name.now c.args.mode) old kept q c.ask.new.self c.make_room.new.self) c.from_residual-in_err-outcome.ensures.1
     (λ e is. (
       c.in_err-outcome.ensures.err,
       c.make_room.ensures.messages,
@@ -45,7 +45,7 @@ returns-in_err-outcome g c =
 pub keep-requires : goal.keep-requires
 keep-requires g c =
     let outcome = c.in_ok-outcome.outcome in
-    let few = event_room c.args.node.now c.ask.new.self (AskedFor c.args.client c.args.name.now c.args.mode) outcome.sends.items outcome.marks.items
+    let few = event_room c.args.node.now c.ask.new.self (acts.Ask c.args.client c.args.name.now c.args.mode) outcome.sends.items outcome.marks.items
     c.requires.consistent c.in_ok-outcome.ensures.ok in (
       lit< tt,
       (

@@ -1,7 +1,7 @@
 use Rattle.std.proofs.Common.{lit<, ◌≡◌, ◌++◌, ◌∷◌, [], List, length, Err, refl, sym, ap, ◌∙◌}
 use Rattle.std.proofs.lemmas.Bool.{false≢true}
 use Rattle.ra_stamp.specs.declared.message.Message.{Message}
-use Rattle.ra_node.specs.Events.Event.{Cancel as GivenUp}
+use Rattle.ra_node.specs.Events.{Event as acts}
 use Rattle.ra_node.proofs.EventsKept.{event_room}
 use Rattle.ra_world.specs.Traffic.{Move}
 use Rattle.ra_world.specs.Trying.{TriesAt}
@@ -27,7 +27,7 @@ returns-in_err-outcome g c =
     let old = c.args.node.now in
     let kept = c.args.kept.now in
     at_err c.from_residual.result (λ e. e ≡ refusal_of_cancel c.in_err-outcome.field-0.0)
-    (λ q. TriesAt c.args.step.now (GivenUp c.args.client c.args.name.now) old kept q c.cancel.new.self c.make_room.new.self) c.from_residual.ensures.1
+    (λ q. TriesAt c.args.step.now (acts.Cancel c.args.client c.args.name.now) old kept q c.cancel.new.self c.make_room.new.self) c.from_residual.ensures.1
     (λ e is. (
       c.in_err-outcome.ensures.cancelled.err,
       c.make_room.ensures.messages,
@@ -40,7 +40,7 @@ returns-in_err-outcome g c =
 pub keep-requires : goal.keep-requires
 keep-requires g c =
     let outcome = c.in_ok-outcome.outcome in
-    let few = event_room c.args.node.now c.cancel.new.self (GivenUp c.args.client c.args.name.now) outcome.sends.items outcome.marks.items
+    let few = event_room c.args.node.now c.cancel.new.self (acts.Cancel c.args.client c.args.name.now) outcome.sends.items outcome.marks.items
     c.requires.consistent c.in_ok-outcome.ensures.cancelled.ok in (
       lit< tt,
       (

@@ -2,7 +2,7 @@ use Rattle.std.proofs.Common.{lit<, ◌≡◌, ◌⊎◌, ◌≤◌, ◌++◌, �
 use Rattle.ra_stamp.specs.declared.message.Message.{Message}
 use Rattle.ra_stamp.specs.declared.entry.Mark.{Mark}
 use Rattle.ra_node.specs.Events.{NodeEvent}
-use Rattle.ra_node.specs.Events.Event.{Forget as Forgot}
+use Rattle.ra_node.specs.Events.{Event as acts}
 use Rattle.ra_world.specs.declared.error.StepError.TheVariants.{Memory}
 use Rattle.ra_world.specs.Traffic.{Move}
 use Rattle.ra_world.specs.Trying.{IsEventRefusal, TriesAt}
@@ -22,12 +22,12 @@ returns-in_err-make_room g c =
     let old = c.args.node.now in
     let kept = c.args.kept.now in
     at_err c.from_residual.result (λ e. e ≡ Memory)
-    (λ q. TriesAt c.args.step.now Forgot old kept q old c.make_room.new.self) c.from_residual.ensures.1
+    (λ q. TriesAt c.args.step.now acts.Forget old kept q old c.make_room.new.self) c.from_residual.ensures.1
     (λ e is. (
       refl,
       c.make_room.ensures.messages,
       c.make_room.ensures.moves,
-      subst (IsEventRefusal old kept.log.moves Forgot) (sym is) (only_full kept.log.moves c.in_err-make_room.ensures.err),
+      subst (IsEventRefusal old kept.log.moves acts.Forget) (sym is) (only_full kept.log.moves c.in_err-make_room.ensures.err),
     ))
 
 pub keep-requires : goal.keep-requires
@@ -46,7 +46,7 @@ returns g c =
     let outcome = c.nothing-outcome.result in
     let none = c.nothing-outcome.ensures in
     let move : Move = record { step = c.args.step.now; sends = outcome.sends.items; marks = outcome.marks.items } in (
-      subst (λ (made : List Message × List Mark). NodeEvent c.args.node.now Forgot made.0 made.1 c.forget.new.self) (λ k. (sym none.sends k, sym none.marks k)) c.forget.ensures.forgotten,
+      subst (λ (made : List Message × List Mark). NodeEvent c.args.node.now acts.Forget made.0 made.1 c.forget.new.self) (λ k. (sym none.sends k, sym none.marks k)) c.forget.ensures.forgotten,
       (
         c.args.kept.now.under_way.items,
         refl,

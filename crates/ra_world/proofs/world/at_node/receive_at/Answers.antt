@@ -1,6 +1,6 @@
 use Rattle.std.proofs.Common.{lit<, ◌≡◌, ◌++◌, ◌∷◌, [], List, Contains, length, Err, refl, sym, ap, ◌∙◌, subst, inl}
 use Rattle.ra_stamp.specs.declared.message.Message.{Message}
-use Rattle.ra_node.specs.Events.Event.{Receive as Received}
+use Rattle.ra_node.specs.Events.{Event as acts}
 use Rattle.ra_world.specs.declared.error.StepError.TheVariants.{Memory}
 use Rattle.ra_world.specs.StepLog.{LogState, HasRoom}
 use Rattle.ra_world.specs.Traffic.{Move}
@@ -15,12 +15,12 @@ returns-in_err-make_room_for g c =
     let old = c.args.receiver.now in
     let kept = c.args.kept.now in
     at_err c.from_residual.result (λ e. e ≡ Memory)
-    (λ q. TriesAt c.args.step.now (Received c.args.message.now) old kept q old c.make_room_for.new.self) c.from_residual.ensures.1
+    (λ q. TriesAt c.args.step.now (acts.Receive c.args.message.now) old kept q old c.make_room_for.new.self) c.from_residual.ensures.1
     (λ e is. (
       refl,
       c.make_room_for.ensures.messages,
       c.make_room_for.ensures.moves,
-      subst (IsEventRefusal old kept.log.moves (Received c.args.message.now)) (sym is) c.in_err-make_room_for.ensures.err,
+      subst (IsEventRefusal old kept.log.moves (acts.Receive c.args.message.now)) (sym is) c.in_err-make_room_for.ensures.err,
     ))
 
 pub returns-in_default : goal.returns-in_default

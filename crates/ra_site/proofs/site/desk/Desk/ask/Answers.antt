@@ -1,6 +1,6 @@
 use Rattle.std.proofs.Common.{List, sym, subst}
 use Rattle.ra_frame.specs.declared.frame.Frame.{Frame}
-use Rattle.ra_book.specs.declared.book.event.BookKind.TheVariants.{Asked}
+use Rattle.ra_book.specs.declared.book.event.BookKind.TheVariants.{Ask}
 use Rattle.ra_book.specs.Book.{BookState, Adds}
 use Rattle.ra_site.proofs.GivenGrants.{given, told_is_given}
 use Rattle.ra_site.proofs.LostFrames.{still_none}
@@ -25,7 +25,7 @@ stepped-requires g c = record {
 pub returns : goal.returns
 returns g c =
     let marks = c.in_ok-posted.posted.marks.items in
-    let kind = Asked c.args.request.now.client c.args.request.now.name c.args.request.now.mode in
+    let kind = Ask c.args.request.now.client c.args.request.now.name c.args.request.now.mode in
     record {
       made = (
         marks,

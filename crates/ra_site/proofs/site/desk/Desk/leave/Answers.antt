@@ -1,6 +1,6 @@
 use Rattle.std.proofs.Common.{List, refl, sym, subst}
 use Rattle.ra_frame.specs.declared.frame.Frame.{Frame}
-use Rattle.ra_book.specs.declared.book.event.BookKind.TheVariants.{Gave}
+use Rattle.ra_book.specs.declared.book.event.BookKind.TheVariants.{Leave}
 use Rattle.ra_book.specs.Book.{BookState, Adds}
 use Rattle.ra_site.proofs.GivenGrants.{given, told_is_given}
 use Rattle.ra_site.proofs.LostFrames.{still_none_after}
@@ -25,7 +25,7 @@ stepped-requires g c = record {
 pub returns : goal.returns
 returns g c =
     let marks = c.in_ok-posted.posted.marks.items in
-    let kind = Gave c.args.client c.args.name in
+    let kind = Leave c.args.client c.args.name in
     record {
       made = (
         marks,
