@@ -1,5 +1,6 @@
 pub mod closed_book;
 pub mod desk;
+pub mod giving_up;
 pub mod refused_frames;
 pub mod request;
 pub mod sending;
@@ -8,7 +9,7 @@ pub mod take_error;
 pub mod ticket;
 pub mod time_limit;
 
-ghost use Rattle.std.specs.Prelude.{◌≡◌, ◌≤◌, true, false, [], All, IfOk, IfSome, OnErr};
+ghost use Rattle.std.specs.Prelude.{◌≡◌, ◌≤◌, true, false, [], All, IfOk, OnErr};
 ghost use Rattle.ra_stamp.specs.NodeId.{IsNodeNumber};
 ghost use Rattle.ra_frame.specs.Fits.{Fits};
 
@@ -19,14 +20,12 @@ use crate::site::request::Request;
 use crate::site::sending::Sending;
 use crate::site::stop_causes::stop_of;
 use crate::site::ticket::{SharedTicket, Ticket};
-use crate::site::time_limit::TimeLimit;
 use crate::{Book, BookError, Events, Gate, Grant, Inbox, NewError, Post, Stop, TakeError};
 use ra_frame::Frame;
 use ra_stamp::{Entry, Memory, Mode, Name, NodeId};
 use std::alloc::Global;
 use std::marker::Model;
 use std::sync::{Mutex, Wait};
-use std::time::{Clock, Duration};
 use thiserror::Error;
 
 /// Why a call of a site did not do what it is for. The first two print the word of what they wrap, and some words are
@@ -176,141 +175,8 @@ impl Site {
         ensures given { IfOk result WasGiven }
     {
         let request = Request { client, name, mode };
-        let ticket = Ticket::new(alloc);
-        let made = {
-            let _share = self.sending.share(rt);
-            let asked = self
-                .desk
-                .lock(rt)
-                .ask(alloc, self.node, gate, &request, ticket.as_ref());
-            self.finish(rt, alloc, asked, post)
-        };
-        self.answer(rt, made, sites)?;
-        self.wait_for_grant(rt, ticket.as_ref(), &request)
-    }
-
-    /// Asks for a name for a client as `lock` does, and waits until the client holds it or the time is over. Then the
-    /// client gives up, and holds nothing, unless it was let in meanwhile. With more than one node no client is let in
-    /// by its own ask, so a time of zero mostly ends without a lock. If the clock can't be read, the time is over.
-    ///
-    /// # Errors
-    ///
-    /// Those of `lock`. If no clock is left for the event in which the client gives up, each site is stopped with
-    /// `Clock`, and the answer is `Stopped`.
-    pub fn lock_within<R: Wait + Clock, G: Gate>(
-        &self,
-        rt: &R,
-        alloc: Global,
-        client: u32,
-        name: Name,
-        mode: Mode,
-        time: Duration,
-        post: &Post,
-        sites: &[Site],
-        gate: &G,
-    ) -> Result<Option<Grant>, SiteError>
-        requires { AreSitesWith self.now sites.now }
-        ensures grant { IfOk result (λ held. IfSome held (IsGrantOf self.now.node client name mode)) }
-        ensures given { IfOk result (λ held. IfSome held WasGiven) }
-    {
-        let limit = TimeLimit::new(rt, time);
-        let request = Request { client, name, mode };
-        let ticket = Ticket::new(alloc);
-        let made = {
-            let _share = self.sending.share(rt);
-            let asked = self
-                .desk
-                .lock(rt)
-                .ask(alloc, self.node, gate, &request, ticket.as_ref());
-            self.finish(rt, alloc, asked, post)
-        };
-        self.answer(rt, made, sites)?;
-        let Some(ticket) = ticket.as_ref() else {
-            return Err(SiteError::Refused(BookError::Memory));
-        };
-        match ticket.wait_within(rt, self.node, &request, &limit) {
-            Some(Ok(grant)) => Ok(Some(grant)),
-            Some(Err(why)) => Err(why),
-            None => self.give_up(rt, alloc, &request, ticket, post, sites, gate),
-        }
-    }
-
-    /// Gives up this request, whose time is over, and returns `None`, or its grant if it was let in meanwhile. The race
-    /// is decided under the lock of the book, by the ticket: the client may ask again on another thread.
-    ///
-    /// # Errors
-    ///
-    /// Those of `lock_within`.
-    fn give_up<R: Wait, G: Gate>(
-        &self,
-        rt: &R,
-        alloc: Global,
-        request: &Request,
-        ticket: &SharedTicket,
-        post: &Post,
-        sites: &[Site],
-        gate: &G,
-    ) -> Result<Option<Grant>, SiteError>
-        requires { AreSitesWith self.now sites.now }
-        ensures grant { IfOk result (λ held.
-            IfSome held (IsGrantOf self.now.node request.now.client request.now.name request.now.mode)) }
-        ensures given { IfOk result (λ held. IfSome held WasGiven) }
-    {
-        let made = {
-            let _share = self.sending.share(rt);
-            let given_up = self
-                .desk
-                .lock(rt)
-                .give_up(alloc, self.node, gate, request, ticket);
-            self.finish(rt, alloc, given_up, post)
-        };
-        let Err(refused) = self.answer(rt, made, sites) else {
-            return Ok(None);
-        };
-        if refused == SiteError::Refused(BookError::ClockFull) {
-            stop_all(rt, sites, Stop::Clock);
-        }
-        // The client was let in, or somebody else gave up for it, or the node is stopped: its thread is told which it
-        // was.
-        match ticket.wait(rt, self.node, request) {
-            Ok(grant) => Ok(Some(grant)),
-            Err(why) => Err(why),
-        }
-    }
-
-    /// Gives up a name for which a client waits or is queued: its request is withdrawn, or it leaves the queue. The
-    /// thread that waits for it wakes, and its call answers `Cancelled`. This call waits for locks alone.
-    ///
-    /// # Errors
-    ///
-    /// The first that holds, and nothing was given up. If the book took the cancel, the answer is `Ok`, even if the
-    /// node is stopped by then.
-    ///
-    /// 1. `Stopped`: the gate answered `false`. The cause is the one that the node keeps, of an earlier stop if there
-    ///    was one.
-    /// 2. `Refused`: the book refused it, as [`Book::cancel`] says, with `Failed` if the node was stopped before. After
-    ///    `NotWaiting` the client may hold the name.
-    pub fn cancel<R: Wait, G: Gate>(
-        &self,
-        rt: &R,
-        alloc: Global,
-        client: u32,
-        name: Name,
-        post: &Post,
-        sites: &[Site],
-        gate: &G,
-    ) -> Result<(), SiteError>
-        requires { AreSitesWith self.now sites.now }
-    {
-        let made = {
-            let _share = self.sending.share(rt);
-            let given_up = self
-                .desk
-                .lock(rt)
-                .cancel(alloc, self.node, gate, client, name);
-            self.finish(rt, alloc, given_up, post)
-        };
-        self.answer(rt, made, sites)
+        let ticket = self.ask(rt, alloc, &request, post, sites, gate)?;
+        ticket.wait(rt, self.node, &request)
     }
 
     /// Forgets the names that the node need not keep, as [`Book::forget`] says. It waits for locks alone.
@@ -526,6 +392,40 @@ impl Site {
         stopped_book(alloc, me, nodes, start, cause)
     }
 
+    /// Makes a request of a client of this node, and sends the frames of the event. Returns the ticket by which the
+    /// outcome is told.
+    ///
+    /// # Errors
+    ///
+    /// The first that holds, and nothing was asked:
+    ///
+    /// 1. `Stopped`: the gate answered `false`.
+    /// 2. `Refused`: the book refused it, as [`Book::ask`] says. `Memory` also comes if there is none for the wait.
+    fn ask<R: Wait, G: Gate>(
+        &self,
+        rt: &R,
+        alloc: Global,
+        request: &Request,
+        post: &Post,
+        sites: &[Site],
+        gate: &G,
+    ) -> Result<SharedTicket, SiteError>
+        requires { AreSitesWith self.now sites.now }
+    {
+        let ticket = Ticket::new(alloc);
+        let made = {
+            let _share = self.sending.share(rt);
+            let asked = self
+                .desk
+                .lock(rt)
+                .ask(alloc, self.node, gate, request, ticket.as_ref());
+            self.finish(rt, alloc, asked, post)
+        };
+        self.answer(rt, made, sites)?;
+        // Without a ticket the desk has refused the request.
+        ticket.ok_or(SiteError::Refused(BookError::Memory))
+    }
+
     /// Hands the book frames, and sends those of their events, with no round of an audit in between. Puts what came of
     /// each into the list. Returns whether all were sent, and if one was not received, why; those before it were.
     fn carry<R: Wait, G: Gate>(
@@ -633,28 +533,5 @@ impl Site {
             left = others;
         }
         are_sent
-    }
-
-    /// Waits until a client is told that its request is granted.
-    ///
-    /// # Errors
-    ///
-    /// The first that comes:
-    ///
-    /// 1. `Refused` with `Memory`: there is no ticket.
-    /// 2. `Stopped`, `Cancelled`: the node was stopped, or the client gave up, before it was let in.
-    fn wait_for_grant<R: Wait>(
-        &self,
-        rt: &R,
-        ticket: Option<&SharedTicket>,
-        request: &Request,
-    ) -> Result<Grant, SiteError>
-        ensures grant { IfOk result (IsGrantOf self.now.node request.now.client request.now.name request.now.mode) }
-        ensures given { IfOk result WasGiven }
-    {
-        let Some(ticket) = ticket else {
-            return Err(SiteError::Refused(BookError::Memory));
-        };
-        ticket.wait(rt, self.node, request)
     }
 }
