@@ -33,7 +33,7 @@ marks_both : (xs ys : List Move) → marks_of (xs ++ ys) ≡ marks_of xs ++ mark
 marks_both [] ys = refl
 marks_both (m ∷ xs) ys = ap (λ (ms : List Mark). m.marks ++ ms) (marks_both xs ys) ∙ sym (append_assoc m.marks (marks_of xs) (marks_of ys))
 
-contained : (marks : List Mark) (place : ℕ) (mark : Mark) → IsAt marks place mark → Contains marks mark
+pub contained : (marks : List Mark) (place : ℕ) (mark : Mark) → IsAt marks place mark → Contains marks mark
 contained [] place mark at = absurd cc
 contained (m ∷ marks) zero mark at = (0, omega arith, same_Some m mark at)
 contained (m ∷ marks) (suc place) mark at = let rest = contained marks place mark at in (suc rest.0, omega (arith, rest.1), rest.2)
@@ -71,7 +71,7 @@ module _ (laws : LawsBelow) (marks_law : MarksOfNodes) (history : TablesByMarks)
       (All-weaker (IsSentIn n (sent_by suffix)) (IsSentIn n all) (more_sent n (sent_by suffix) all (λ x. Contains-append_right m.sends (sent_by suffix) x)) (marks_of suffix) rest)
 
   -- after these moves each node that is At has met the entry's number
-  abbrev HaveMet : (ℕ → Type 0) → Entry → List Move → Type 0
+  abbrev pub HaveMet : (ℕ → Type 0) → Entry → List Move → Type 0
   HaveMet At e ms = (i : ℕ) (node : NodeState) → At i → NodeEvents (opening_node i n start) (happened_at i ms) node → e.stamp.seq ≤ (resource_at node e.name).state.highest
 
   met_on : (At : ℕ → Type 0) (e : Entry) (ms : List Move) (m : Move) → HaveMet At e ms → HaveMet At e (ms ++ m ∷ [])
@@ -80,7 +80,7 @@ module _ (laws : LawsBelow) (marks_law : MarksOfNodes) (history : TablesByMarks)
       omega (arith, met i parts.0 here parts.1, events_raise (happens i m) parts.0 node parts.2 e.name)
 
   -- so each later request of such a node on the entry's name has a greater number
-  later_above : (At : ℕ → Type 0) (e : Entry) (suffix ms : List Move) → IsRun n start (ms ++ suffix) → HaveMet At e ms → All (IsAbove At e) (marks_of suffix)
+  pub later_above : (At : ℕ → Type 0) (e : Entry) (suffix ms : List Move) → IsRun n start (ms ++ suffix) → HaveMet At e ms → All (IsAbove At e) (marks_of suffix)
   later_above At e [] ms run met = All-nil (IsAbove At e)
   later_above At e (m ∷ suffix) ms run met =
       let before = just_before laws n start count m suffix ms run in

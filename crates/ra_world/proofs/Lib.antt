@@ -36,6 +36,9 @@ mod Arriving
 mod RequestsSent
 mod Fairness
 mod OneOvertakes
+mod Requesting
+mod Returning
+mod GivingUp
 pub mod QuietRuns
 pub mod TableNodes
 mod DifferentLists

@@ -23,7 +23,7 @@ module _ (laws : LawsBelow) (n start : ℕ) (count : IsNodeNumber n) (m : Move) 
   pub longer : IsRun n start ((ms ++ m ∷ []) ++ suffix)
   longer = subst (IsRun n start) (sym (append_assoc ms (m ∷ []) suffix)) run
 
-  just_after : IsRun n start (ms ++ m ∷ [])
+  pub just_after : IsRun n start (ms ++ m ∷ [])
   just_after = prefixes laws.splits n start suffix (ms ++ m ∷ []) longer
 
   pub just_before : Reached (Unit {0}) (Unit {0}) n start ms
@@ -34,12 +34,13 @@ module _ (laws : LawsBelow) (n start : ℕ) (count : IsNodeNumber n) (m : Move) 
 
   -- the marks of one of its events
   abbrev EachEvent : (Mark → Type 0) → Type 0
-  EachEvent P = (p : ℕ) (event : Event) (new : NodeState) → IsNode n p → IsForThisNode (just_before.nodes p) event → NodeEvent (just_before.nodes p) event m.sends m.marks new → All P m.marks
+  EachEvent P = (p : ℕ) (event : Event) (new : NodeState) → IsNode n p → IsForThisNode (just_before.nodes p) event → events_at p m.step ≡ event ∷ []
+      → NodeEvent (just_before.nodes p) event m.sends m.marks new → All P m.marks
 
   by_event : (P : Mark → Type 0) → EachEvent P → (p : ℕ) (event : Event) → IsNode n p → IsForThisNode (just_before.nodes p) event → events_at p m.step ≡ event ∷ [] → All P m.marks
   by_event P each p event within for here =
       let happened = event_happened laws n start ms m just_before p within event here (just_after.ends.0 p, just_after.ends.1 p within.0 within.1) in
-      each p event happened.0 within for happened.1
+      each p event happened.0 within for here happened.1
 
   by_step : (P : Mark → Type 0) → EachEvent P → (step : Step) → m.step ≡ step → IsFit n ms step m.sends m.marks → All P m.marks
   by_step P each (Ask node client name mode) is fit =
@@ -65,5 +66,11 @@ module _ (laws : LawsBelow) (n start : ℕ) (count : IsNodeNumber n) (m : Move) 
   by_step P each (Lose message) is fit = All-same P m.marks [] fit.2 (All-nil P)
   by_step P each (Repeat message) is fit = All-same P m.marks [] fit.2 (All-nil P)
 
-  pub by_move : (P : Mark → Type 0) → EachEvent P → All P m.marks
-  by_move P each = by_step P each m.step refl fits_here
+  -- of the event that is the move's step
+  pub by_its_event : (P : Mark → Type 0) → EachEvent P → All P m.marks
+  by_its_event P each = by_step P each m.step refl fits_here
+
+  pub by_move : (P : Mark → Type 0)
+      → ((p : ℕ) (event : Event) (new : NodeState) → IsNode n p → IsForThisNode (just_before.nodes p) event → NodeEvent (just_before.nodes p) event m.sends m.marks new → All P m.marks)
+      → All P m.marks
+  by_move P each = by_its_event P (λ p event new within for here. each p event new within for)

@@ -2,10 +2,11 @@
 pub mod fairness;
 pub mod fitting;
 
-ghost use Rattle.std.specs.Prelude.{◌≡◌, ◌≢◌, ◌+◌, ◌-◌, ◌*◌, ◌≤◌, ◌++◌, ◌∷◌, ◌↔◌, [], ℕ, List, Some, All, AllPairs, Contains, length, map};
+ghost use Rattle.std.specs.Prelude.{◌≡◌, ◌≢◌, ◌+◌, ◌-◌, ◌*◌, ◌<◌, ◌≤◌, ◌++◌, ◌∷◌, ◌↔◌, [], ℕ, List, Some, All, AllPairs, Contains, length, map};
 ghost use Rattle.ra_stamp.specs.declared.message.Message.{Message};
 ghost use Rattle.ra_stamp.specs.declared.mode.Mode.{Mode};
 ghost use Rattle.ra_stamp.specs.declared.entry.Entry.{Entry};
+ghost use Rattle.ra_stamp.specs.declared.entry.Mark.{Mark};
 ghost use Rattle.ra_stamp.specs.Message.{from_of, to_of, seq_of};
 ghost use Rattle.ra_stamp.specs.Mode.{Conflict};
 ghost use Rattle.ra_stamp.specs.NodeId.{IsNodeNumber};
@@ -16,16 +17,17 @@ ghost use Rattle.ra_node.specs.Turns.{MayAsk};
 ghost use Rattle.ra_node.specs.Node.{NodeState, opening_node, resource_at};
 ghost use Rattle.ra_node.specs.Events.{Event, NodeEvent, NodeEvents};
 ghost use Rattle.ra_table.specs.Table.{LockTable, TableRun, MayEnter};
+ghost use Rattle.ra_table.specs.Laws.{IsAt};
 ghost use Rattle.ra_world.specs.declared.step.Step.{Step};
 ghost use Rattle.ra_world.specs.Traffic.{Move, TakesEach, LeavesUnderWay, IsUnderWay, sent_by, put_in, put_by, repeated_by, taken_by, taken_in};
 ghost use Rattle.ra_world.specs.Numbers.{IsNumberedMark, IsNumberedMessage};
 ghost use Rattle.ra_world.specs.AtNodes.{IsTableOf};
-ghost use Rattle.ra_world.specs.Asked.{asks_by, cancels_by};
+ghost use Rattle.ra_world.specs.Asked.{AsksIn, IsGrantedIn, asks_by, cancels_by};
 ghost use Rattle.ra_world.specs.Quiet.{IsQuiet, IsBlocked, MeetsMessageCount, requests_in, withdrawn_in};
 ghost use Rattle.ra_world.specs.Run.{IsRun, IsFit, GoesOn, WorldRun, EndsWith, events_at, marks_of, happened_at, waiting_at_all, queued_at_all, with_node};
 
 use crate::Step;
-use ra_stamp::{Entry, Message};
+use ra_stamp::{Entry, Mark, Message};
 
 /// Mutual exclusion: at the end of a run no two different nodes hold a name in modes that conflict, whatever was lost
 /// or repeated and in whatever order the messages came.
@@ -136,6 +138,21 @@ pub fn asks_make_requests_or_are_queued()
     // Only a cancel withdraws.
     ensures withdrawn { (n start : ℕ) (moves : List Move) → IsNodeNumber n → IsRun n start moves
         → withdrawn_in (marks_of moves) ≤ cancels_by moves }
+{}
+
+/// What was withdrawn never returns, whatever was lost or repeated. The numbers of a node's requests on a name rise. So
+/// no request is made twice, and one that is withdrawn is never granted, neither before nor afterwards. A client that
+/// gives up, even one that was only queued, is granted the name again only if it asks again: as prefixes of runs are
+/// runs, before the grant.
+pub fn withdrawn_requests_never_return()
+    ensures rise { (n start : ℕ) (moves : List Move) (e f : Entry) (i j : ℕ) → IsNodeNumber n → IsRun n start moves
+        → i < j → IsAt (marks_of moves) i (Mark.Requested e) → IsAt (marks_of moves) j (Mark.Requested f)
+        → e.stamp.node ≡ f.stamp.node → e.name ≡ f.name → e.stamp.seq < f.stamp.seq }
+    ensures withdrawn { (n start : ℕ) (moves : List Move) (e : Entry) (i j : ℕ) → IsNodeNumber n → IsRun n start moves
+        → IsAt (marks_of moves) i (Mark.Withdrawn e) → ¬ IsAt (marks_of moves) j (Mark.Entered e) }
+    ensures given_up { (n start : ℕ) (before later : List Move) (move : Move) (node client : ℕ) (name : List ℕ)
+        → IsNodeNumber n → IsRun n start (before ++ move ∷ later) → move.step ≡ Step.Cancel node client name
+        → IsGrantedIn (marks_of (move ∷ later)) node client name → AsksIn later node client name }
 {}
 
 /// After each run the messages under way are one list. Each of them has a number, and goes from one existing node to

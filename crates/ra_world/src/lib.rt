@@ -19,7 +19,7 @@ pub use laws::{
     runs_go_on_by_events, runs_go_on_where_steps_are_allowed,
     runs_send_at_most_two_messages_for_each_request_and_other_node, steps_elsewhere_leave_a_node,
     tables_of_runs_are_those_of_their_nodes, two_nodes_never_hold_in_conflict,
-    waiting_requests_are_blocked_in_quiet_runs,
+    waiting_requests_are_blocked_in_quiet_runs, withdrawn_requests_never_return,
 };
 // A caller of `report_text` finds here what else it prints a run by.
 pub use ra_text::{WriteFault, mark_line, write_out};
