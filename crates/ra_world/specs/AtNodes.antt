@@ -14,8 +14,9 @@ IsEntryAt entries i name e = Contains entries e × (e.stamp.node ≡ i) × (e.na
 abbrev pub IsOfNode : ℕ → Entry → Type 0
 IsOfNode n e = (1 ≤ e.stamp.node) × (e.stamp.node ≤ n)
 
--- The table is what the nodes 1 to n say: no other node has an entry in it. On each name a node has at most one request.
--- If it waits, it is the node's waiting entry on this name, and if it is granted, it is the node's holding one.
+-- The table is what the nodes 1 to n say: no other node has an entry in it. On each name a node has at most one
+-- request. If it waits, it is the node's waiting entry on this name, and if it is granted, it is the node's holding
+-- one.
 pub record IsTableOf (n : ℕ) (nodes : ℕ → NodeState) (table : LockTable) : Type 0 where
   pub waiting : (i : ℕ) (name : List ℕ) (e : Entry) → 1 ≤ i → i ≤ n
       → IsEntryAt table.waiting i name e ↔ (use_of (resource_at (nodes i) name) ≡ WaitsBy e)

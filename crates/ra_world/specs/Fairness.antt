@@ -38,7 +38,8 @@ pub record Overtakes (marks : List Mark) (place : ℕ) (f e : Entry) : Type 0 wh
 -- The later moves are fair to an entry that waits in the table to which the first moves lead.
 pub record IsFairTo (n : ℕ) (before : List Move) (table : LockTable) (e : Entry) (later : List Move) : Type 0 where
   -- whoever overtakes e is of another node, and has an earlier stamp
-  pub elsewhere : (place : ℕ) (f : Entry) → Overtakes (marks_of later) place f e → IsOtherNode e.stamp.node n f.stamp.node
+  pub elsewhere : (place : ℕ) (f : Entry) → Overtakes (marks_of later) place f e
+      → IsOtherNode e.stamp.node n f.stamp.node
   pub earlier : (place : ℕ) (f : Entry) → Overtakes (marks_of later) place f e → IsEarlier f.stamp e.stamp
   -- if e's REQUEST has arrived at that node, whoever overtakes waits in the table, too, and the node does so once at
   -- most

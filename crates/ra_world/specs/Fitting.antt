@@ -54,14 +54,16 @@ TellsApart is message = (m : Message) → IsTrue (is m) ↔ (m ≡ message)
 
 -- the message is more often among the first ones than among the others
 abbrev pub IsMoreOften : Message → List Message → List Message → Type 0
-IsMoreOften message puts takes = (is : Message → Bool) → TellsApart is message → length (filter is takes) < length (filter is puts)
+IsMoreOften message puts takes =
+    (is : Message → Bool) → TellsApart is message → length (filter is takes) < length (filter is puts)
 
 -- of one of the nodes: how often it sent the message and these steps repeated it is, together, more than how often they
 -- took it
 abbrev pub IsLeftBy : ℕ → (ℕ → List Happening) → List Step → Message → Type 0
 IsLeftBy n happened steps message =
     (i : ℕ) × (1 ≤ i) × (i ≤ n)
-    × IsMoreOften message (sent_in (happened_by (happened i) i steps) ++ flat_map repeated_in steps) (flat_map taken_in steps)
+    × IsMoreOften message (sent_in (happened_by (happened i) i steps)
+    ++ flat_map repeated_in steps) (flat_map taken_in steps)
 
 -- These steps, and what happened at each node, fit together. What happened is a history of the node, and its events are
 -- those of the steps. A client's step names an existing node. Each message that a step takes or repeats was sent and

@@ -1,5 +1,6 @@
--- The printed lines of a state: what each node knows of names, the messages under way, and the requests on these names that
--- wait and hold, at the end of a run. A line is words with one space between two, and a line feed at its end, as in a report.
+-- The printed lines of a state: what each node knows of names, the messages under way, and the requests on these names
+-- that wait and hold, at the end of a run. A line is words with one space between two, and a line feed at its end, as
+-- in a report.
 use Rattle.std.specs.Prelude.{◌≡◌, ℕ, ◌+◌, List, [], ◌∷◌, ◌++◌, length, if◌then◌else◌, Option, Some, None, codes, decimal, flat_map}
 use Rattle.std.specs.List.{range_with_len}
 use Rattle.std.specs.FinSet as set
@@ -36,7 +37,8 @@ use_fields (HoldsBy e) = field (codes "inside") ++ request_fields e
 
 -- the first line of a name at a node: the highest number that the node has met, and its request
 abbrev pub node_line : ℕ → List ℕ → Resource → List ℕ
-node_line i name r = at_name (codes "node") i name ++ field (decimal r.state.highest) ++ use_fields (use_of r) ++ codes "\n"
+node_line i name r =
+    at_name (codes "node") i name ++ field (decimal r.state.highest) ++ use_fields (use_of r) ++ codes "\n"
 
 -- the line of another node whose REPLY is awaited
 abbrev pub awaits_line : ℕ → List ℕ → ℕ → List ℕ
@@ -50,7 +52,8 @@ awaited_line i name s other = if set.contains s.awaited other then awaits_line i
 abbrev pub awaited_lines : ℕ → ℕ → List ℕ → State → List ℕ
 awaited_lines n i name s = flat_map (awaited_line i name s) (range_with_len 1 n)
 
--- the line of another node whose REPLY is deferred, with the number of its request if there is one, and otherwise nothing
+-- the line of another node whose REPLY is deferred, with the number of its request if there is one, and otherwise
+-- nothing
 abbrev pub defers_line : ℕ → List ℕ → ℕ → Option ℕ → List ℕ
 defers_line i name other None = []
 defers_line i name other (Some number) =
@@ -70,7 +73,8 @@ others_lines n i name s = awaited_lines n i name s ++ deferred_lines n i name s
 
 -- the line of a queued client
 abbrev pub queued_line : ℕ → List ℕ → Queued → List ℕ
-queued_line i name q = at_name (codes "queued") i name ++ field (decimal q.client) ++ field (mode_word q.mode) ++ codes "\n"
+queued_line i name q =
+    at_name (codes "queued") i name ++ field (decimal q.client) ++ field (mode_word q.mode) ++ codes "\n"
 
 -- the lines of a name at node i of n: its first one, then those of the awaited REPLYs, of the deferred ones, and of the
 -- queued clients, the next one first
@@ -99,8 +103,8 @@ message_lines place (message ∷ messages) = message_line place message ++ messa
 
 -- ---- The lock table
 
--- the line of the request of a node on a name, if there is one: the word `waiting` or `holding`, and then the fields of a
--- mark
+-- the line of the request of a node on a name, if there is one: the word `waiting` or `holding`, and then the fields of
+-- a mark
 abbrev pub table_line : Use → List ℕ
 table_line Nobody = []
 table_line (WaitsBy e) = codes "waiting" ++ entry_fields e ++ codes "\n"
@@ -118,7 +122,8 @@ table_lines names nodes count = flat_map (λ i. table_lines_at names (nodes i)) 
 
 -- the text of a state: how many steps were made, these names at the n nodes, the messages under way, these lines about
 -- clients, and the requests on these names that wait and hold
-abbrev pub state_text : (n steps : ℕ) → (names : List (List ℕ)) → (nodes : ℕ → NodeState) → (left : List Message) → (clients : List ℕ) → List ℕ
+abbrev pub state_text : (n steps : ℕ) → (names : List (List ℕ)) → (nodes : ℕ → NodeState) → (left : List Message)
+    → (clients : List ℕ) → List ℕ
 state_text n steps names nodes left clients =
     total_line (codes "steps") steps
     ++ node_lines n names nodes n
@@ -126,9 +131,9 @@ state_text n steps names nodes left clients =
     ++ clients
     ++ table_lines names nodes n
 
--- The text says which state n nodes are in after these moves from the start value. Of the nodes it tells what they know of
--- these names, and of the clients it has these lines. The requests of the nodes are the lock table of the moves' marks, of
--- which the text has those on these names.
+-- The text says which state n nodes are in after these moves from the start value. Of the nodes it tells what they know
+-- of these names, and of the clients it has these lines. The requests of the nodes are the lock table of the moves'
+-- marks, of which the text has those on these names.
 pub record IsStateText (n start : ℕ) (moves : List Move) (names : List (List ℕ)) (clients text : List ℕ) : Type 0 where
   pub nodes : ℕ → NodeState
   pub ends : EndsWith n start moves nodes

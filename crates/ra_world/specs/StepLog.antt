@@ -33,7 +33,8 @@ moves_of made = map move_of made
 
 -- What is kept is that of the moves, the marks only if they are to be kept. The messages sent are at most 2^64-1 times
 -- the steps, and so are the requests and the withdrawals.
-pub record AreCounted (keeps : ℕ) (moves : List Move) (steps : ℕ) (marks : List Mark) (sent requests lost repeated withdrawn : ℕ) : Type 0 where
+pub record AreCounted (keeps : ℕ) (moves : List Move) (steps : ℕ) (marks : List Mark)
+    (sent requests lost repeated withdrawn : ℕ) : Type 0 where
   pub steps_are : steps ≡ length moves
   pub marks_are : keeps ≡ 1 → marks ≡ marks_of moves
   pub sent_is : sent ≡ length (sent_by moves)

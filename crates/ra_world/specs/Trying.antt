@@ -37,7 +37,8 @@ abbrev pub IsEventRefusal : NodeState → List Move → Event → StepError → 
 IsEventRefusal s moves (acts.Ask client name mode) NoNode = ⊥
 IsEventRefusal s moves (acts.Ask client name mode) NotUnderWay = ⊥
 IsEventRefusal s moves (acts.Ask client name mode) (Node Busy) = IsAskRefusal (resource_at s name) client asking.Busy
-IsEventRefusal s moves (acts.Ask client name mode) (Node Exhausted) = IsAskRefusal (resource_at s name) client asking.Exhausted
+IsEventRefusal s moves (acts.Ask client name mode) (Node Exhausted) =
+    IsAskRefusal (resource_at s name) client asking.Exhausted
 IsEventRefusal s moves (acts.Ask client name mode) (Node NotHeld) = ⊥
 IsEventRefusal s moves (acts.Ask client name mode) (Node NotWaiting) = ⊥
 IsEventRefusal s moves (acts.Ask client name mode) Memory = IsAskRefusal (resource_at s name) client asking.Memory
@@ -45,7 +46,8 @@ IsEventRefusal s moves (acts.Leave client name) NoNode = ⊥
 IsEventRefusal s moves (acts.Leave client name) NotUnderWay = ⊥
 IsEventRefusal s moves (acts.Leave client name) (Node Busy) = ⊥
 IsEventRefusal s moves (acts.Leave client name) (Node Exhausted) = ⊥
-IsEventRefusal s moves (acts.Leave client name) (Node NotHeld) = IsLeaveRefusal (resource_at s name) client leaving.NotHeld
+IsEventRefusal s moves (acts.Leave client name) (Node NotHeld) =
+    IsLeaveRefusal (resource_at s name) client leaving.NotHeld
 IsEventRefusal s moves (acts.Leave client name) (Node NotWaiting) = ⊥
 IsEventRefusal s moves (acts.Leave client name) Memory = IsLeaveRefusal (resource_at s name) client leaving.Memory
 IsEventRefusal s moves (acts.Cancel client name) NoNode = ⊥
@@ -53,7 +55,8 @@ IsEventRefusal s moves (acts.Cancel client name) NotUnderWay = ⊥
 IsEventRefusal s moves (acts.Cancel client name) (Node Busy) = ⊥
 IsEventRefusal s moves (acts.Cancel client name) (Node Exhausted) = ⊥
 IsEventRefusal s moves (acts.Cancel client name) (Node NotHeld) = ⊥
-IsEventRefusal s moves (acts.Cancel client name) (Node NotWaiting) = IsCancelRefusal (resource_at s name) client cancelling.NotWaiting
+IsEventRefusal s moves (acts.Cancel client name) (Node NotWaiting) =
+    IsCancelRefusal (resource_at s name) client cancelling.NotWaiting
 IsEventRefusal s moves (acts.Cancel client name) Memory = IsCancelRefusal (resource_at s name) client cancelling.Memory
 IsEventRefusal s moves acts.Forget NoNode = ⊥
 IsEventRefusal s moves acts.Forget NotUnderWay = ⊥
@@ -64,14 +67,16 @@ IsEventRefusal s moves (acts.Receive message) NotUnderWay = ⊥
 IsEventRefusal s moves (acts.Receive message) (Node why) = ⊥
 IsEventRefusal s moves (acts.Receive message) Memory = (BringsNothing s message → ⊥) ⊎ IsFull moves
 
--- what comes of a step that is tried as an event of a node: the event happens there, what it sends comes under way after
--- the messages that it leaves there, and the step is logged; or nothing changes, for this cause
-abbrev pub TriesAt : {keeps : ℕ} → Step → Event → NodeState → KeptSteps keeps → Result Outcome StepError → NodeState → KeptSteps keeps → Type 0
+-- what comes of a step that is tried as an event of a node: the event happens there, what it sends comes under way
+-- after the messages that it leaves there, and the step is logged; or nothing changes, for this cause
+abbrev pub TriesAt : {keeps : ℕ} → Step → Event → NodeState → KeptSteps keeps → Result Outcome StepError → NodeState
+    → KeptSteps keeps → Type 0
 TriesAt {keeps} step event node kept (Ok outcome) node' kept' =
     NodeEvent node event outcome.sends.items outcome.marks.items node'
     × ((left : List Message) × LeavesOthers kept.log.moves kept.under_way.items event left
     × (kept'.under_way.items ≡ left ++ outcome.sends.items))
-    × (kept'.log.moves ≡ kept.log.moves ++ record { step = step; sends = outcome.sends.items; marks = outcome.marks.items } ∷ [])
+    × (kept'.log.moves ≡ kept.log.moves
+    ++ record { step = step; sends = outcome.sends.items; marks = outcome.marks.items } ∷ [])
 TriesAt {keeps} step event node kept (Err cause) node' kept' =
     (node' ≡ node) × (kept'.under_way.items ≡ kept.under_way.items) × (kept'.log.moves ≡ kept.log.moves)
     × IsEventRefusal node kept.log.moves event cause

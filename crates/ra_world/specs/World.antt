@@ -111,11 +111,13 @@ MayNeedMemory n start moves (Forget node) = ⊥
 
 -- What a world answers to a step, and what it is then. This is one record, so that `step_near` promises no less than
 -- `step`.
-pub record AnswersStep (old : WorldState) (step : Step) (result : Result Outcome StepError) (new : WorldState) : Type 0 where
+pub record AnswersStep (old : WorldState) (step : Step) (result : Result Outcome StepError)
+    (new : WorldState) : Type 0 where
   pub ok : IfOk result (λ outcome. new ≡ with_move old step outcome.sends.items outcome.marks.items)
   pub run : IsRun new.count new.start new.moves
   pub count : IsNodeNumber new.count
-  pub refused : (cause : StepError) → cause ≢ Memory → IsErrOf result cause ↔ HasCause old.count old.start old.moves step cause
+  pub refused : (cause : StepError) → cause ≢ Memory → IsErrOf result cause
+      ↔ HasCause old.count old.start old.moves step cause
   -- `Memory` is the only other error
   pub allowed : IsOkUnless result Memory ↔ GoesOn old.count old.start old.moves step
   pub err : OnErr result (new ≡ old)
@@ -124,15 +126,18 @@ pub record AnswersStep (old : WorldState) (step : Step) (result : Result Outcome
 -- at the end of a run this is the node with this number, to which its own events lead, or no node has this number
 abbrev pub IsNodeAfter : ℕ → ℕ → List Move → ℕ → Option NodeState → Type 0
 IsNodeAfter n start moves i None = n < i
-IsNodeAfter n start moves i (Some node) = (1 ≤ i) × (i ≤ n) × NodeEvents (opening_node i n start) (happened_at i moves) node
+IsNodeAfter n start moves i (Some node) =
+    (1 ≤ i) × (i ≤ n) × NodeEvents (opening_node i n start) (happened_at i moves) node
 
 -- at the nodes at the end of a run, this many requests wait
 abbrev pub AreWaiting : ℕ → ℕ → List Move → ℕ → Type 0
-AreWaiting n start moves waiting = (nodes : ℕ → NodeState) × EndsWith n start moves nodes × (waiting ≡ waiting_at_all n nodes)
+AreWaiting n start moves waiting =
+    (nodes : ℕ → NodeState) × EndsWith n start moves nodes × (waiting ≡ waiting_at_all n nodes)
 
 -- at the nodes at the end of a run, this many clients are queued
 abbrev pub AreQueued : ℕ → ℕ → List Move → ℕ → Type 0
-AreQueued n start moves queued = (nodes : ℕ → NodeState) × EndsWith n start moves nodes × (queued ≡ queued_at_all n nodes)
+AreQueued n start moves queued =
+    (nodes : ℕ → NodeState) × EndsWith n start moves nodes × (queued ≡ queued_at_all n nodes)
 
 -- the report of a run: each of its figures is what the definitions say
 pub record Reports (n start : ℕ) (moves : List Move) (report : Report) : Type 0 where

@@ -58,7 +58,8 @@ impl<const KEEPS_MARKS: u8> Model for StepLog<KEEPS_MARKS> {
     } };
 
     ghost invariant = { λ l.
-        AreCounted KEEPS_MARKS (moves_of l.made.items) l.steps l.marks.items l.sent l.requests l.lost l.repeated l.withdrawn };
+        AreCounted KEEPS_MARKS (moves_of l.made.items) l.steps l.marks.items l.sent l.requests l.lost l.repeated
+        l.withdrawn };
 }
 
 impl<const KEEPS_MARKS: u8> StepLog<KEEPS_MARKS> {
