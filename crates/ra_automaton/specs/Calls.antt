@@ -1,5 +1,5 @@
--- What the calls of an automaton answer. Each part is stated once, for a call and for the form of it that knows more or is given a
--- list for the messages. Whatever is refused, the state is as before.
+-- What the calls of an automaton answer. Each part is stated once, for a call and for the form of it that knows more or
+-- is given a list for the messages. Whatever is refused, the state is as before.
 use Rattle.std.specs.Prelude.{◌≡◌, ◌≢◌, ◌↔◌, ◌<◌, ◌⊎◌, ℕ, false, IsTrue, Result, IfOk, OnErr, IsErrOf}
 use Rattle.ra_stamp.specs.declared.message.Message.{Message}
 use Rattle.ra_stamp.specs.declared.mode.Mode.{Mode}
@@ -16,12 +16,13 @@ use Rattle.ra_automaton.specs.Steps.{RequestStep, ReceiveStep, LetsEnter, LeaveS
 use Rattle.ra_automaton.specs.Steps.{WithdrawStep, WithdrawAndRequestStep}
 
 -- a request is made
-pub record AnswersRequest {E : Type 0} (old : State) (mode : Mode) (answer : Result Reaction E) (new : State) : Type 0 where
+pub record AnswersRequest {E : Type 0} (old : State) (mode : Mode) (answer : Result Reaction E)
+    (new : State) : Type 0 where
   pub ok : IfOk answer (λ reaction. RequestStep old mode reaction.sends.items reaction.entered new)
   pub err : OnErr answer (new ≡ old)
 
--- `WrongNode` is answered exactly if the message is for another node, and otherwise `Stranger` exactly if its sender is this node
--- or above the number of nodes
+-- `WrongNode` is answered exactly if the message is for another node, and otherwise `Stranger` exactly if its sender is
+-- this node or above the number of nodes
 pub record ChecksAddress {T : Type 0} (me nodes : ℕ) (message : Message) (answer : Result T ReceiveError) : Type 0 where
   pub wrong_node : IsErrOf answer WrongNode ↔ (to_of message ≢ me)
   pub stranger : IsErrOf answer Stranger ↔ ((to_of message ≡ me) × ((from_of message ≡ me) ⊎ (nodes < from_of message)))

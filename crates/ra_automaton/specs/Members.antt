@@ -11,8 +11,8 @@ abbrev pub new_error_of : MemberError → NewError
 new_error_of BadCount = refusal.BadCount
 new_error_of BadNode = refusal.BadNode
 
--- `BadCount` is answered exactly if there can't be this many nodes, otherwise `BadNode` exactly if the node is above their
--- number, and no other refusal
+-- `BadCount` is answered exactly if there can't be this many nodes, otherwise `BadNode` exactly if the node is above
+-- their number, and no other refusal
 pub record ChecksMember {T : Type 0} (me nodes : ℕ) (answer : Result T NewError) : Type 0 where
   pub bad_count : IsErrOf answer refusal.BadCount ↔ (IsNodeNumber nodes → ⊥)
   pub bad_node : IsErrOf answer refusal.BadNode ↔ (IsNodeNumber nodes × (nodes < me))

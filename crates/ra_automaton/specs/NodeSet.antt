@@ -1,5 +1,5 @@
--- How words of 64 bits represent sets of nodes, and how a set and a list represent the deferred nodes and their numbers. No
--- public contract speaks of words.
+-- How words of 64 bits represent sets of nodes, and how a set and a list represent the deferred nodes and their
+-- numbers. No public contract speaks of words.
 use Rattle.std.specs.Prelude.{ℕ, ◌-◌, Bool, List, filter, length, map, ◌==◌, slice_index, refl}
 use Rattle.std.specs.Coded.{Coded, code_by, coded×, coded_ℕ}
 use Rattle.std.specs.Int.{bit_at}
@@ -27,7 +27,8 @@ set_of word = set.from_list (nodes_of word)
 -- the nodes of a set, each with its number: that of node i is at place i - 1 of the list
 abbrev pub map_of : set.FinSet nat_cmp → List ℕ → finmap.FinMap nat_cmp ℕ
 map_of nodes numbers =
-    finmap.from_sorted (map (λ node. (node, slice_index numbers (node - 1))) (filter (λ node. set.contains nodes node) (range_with_len 1 (length numbers))))
+    finmap.from_sorted (map (λ node. (node, slice_index numbers (node - 1)))
+    (filter (λ node. set.contains nodes node) (range_with_len 1 (length numbers))))
 
 -- the deferred nodes, each with the number of its request, and how many nodes there is room for
 pub record Deferred : Type 0 where

@@ -162,7 +162,8 @@ pub record LeaveStep (old : State) (sends : List Message) (new : State) : Type 0
 
 -- ---- The client gives up while it waits: each deferred REPLY goes out, and no REPLY is awaited any more.
 
--- a withdrawal needs a node that waits, and makes it idle; its highest number stays, so its next request has a greater one
+-- a withdrawal needs a node that waits, and makes it idle; its highest number stays, so its next request has a greater
+-- one
 pub record WithdrawStep (old : State) (sends : List Message) (new : State) : Type 0 where
   pub seq : ℕ
   pub mode : Mode

@@ -1,5 +1,7 @@
-ghost use Rattle.std.specs.Prelude.{◌≡◌, ◌≢◌, ◌+◌, ◌*◌, ◌<◌, ◌≤◌, ◌⊎◌, ◌↔◌, ◌++◌, [], map, max};
-ghost use Rattle.std.specs.Prelude.{IsTrue, IsErrOf, IsOk, IfOk, OnOk, OnErr};
+mod ending;
+
+ghost use Rattle.std.specs.Prelude.{◌≡◌, ◌≢◌, ◌<◌, ◌≤◌, ◌⊎◌, ◌↔◌, max};
+ghost use Rattle.std.specs.Prelude.{IsTrue, IsErrOf, IfOk, OnOk, OnErr};
 
 use crate::address::check_address;
 use crate::cases::{
@@ -9,11 +11,10 @@ use crate::cases::{
 use crate::deferrals::Deferrals;
 use crate::node_set::NodeSet;
 use crate::sends::push_requests;
-use crate::{LeaveError, NewError, Phase, Reaction, ReceiveError, RequestError, WithdrawError};
+use crate::{NewError, Phase, Reaction, ReceiveError, RequestError};
 use ra_stamp::{Member, Memory, Message, Messages, Mode, Name, NodeId, Stamp};
 use std::alloc::Global;
 use std::marker::Model;
-use std::mem;
 
 /// One resource at one node: a call for each event, and a reader for each part. Contracts see its state.
 #[derive(Drop)]
@@ -48,12 +49,10 @@ impl Automaton {
     ghost use Rattle.std.specs.FinMap as finmap;
     ghost use Rattle.ra_stamp.specs.Message.{name_of};
     ghost use Rattle.ra_automaton.specs.State.{opening, entered_phase};
-    ghost use Rattle.ra_automaton.specs.State.{IsOther, IsAddressed, IsConsistent, IsInside, IsWaitingPhase};
-    ghost use Rattle.ra_automaton.specs.Steps.{greatest_number, later_of, others_of, OwnGoesFirst, Awaits};
+    ghost use Rattle.ra_automaton.specs.State.{IsOther, IsAddressed, IsConsistent, IsWaitingPhase};
+    ghost use Rattle.ra_automaton.specs.Steps.{greatest_number, later_of, OwnGoesFirst, Awaits};
     ghost use Rattle.ra_automaton.specs.Steps.{Begins, Defers, RepliesAtOnce, TakesReply, LetsEnter};
     ghost use Rattle.ra_automaton.specs.Calls.{AnswersRequest, ChecksAddress, AnswersReceive};
-    ghost use Rattle.ra_automaton.specs.Calls.{AnswersLeave, AnswersLeaveAndRequest};
-    ghost use Rattle.ra_automaton.specs.Calls.{AnswersWithdraw, AnswersWithdrawAndRequest};
     ghost use Rattle.ra_automaton.specs.Members.{ChecksMember};
     ghost use Rattle.ra_automaton.specs.Memory.{IsRepliedAtOnce};
     ghost use Rattle.ra_automaton.specs.NodeSet.{nobody_of};
@@ -211,186 +210,6 @@ impl Automaton {
         }
     }
 
-    /// Leaves the resource, and sends each REPLY that is deferred. The cost is linear in the number of nodes.
-    ///
-    /// # Errors
-    ///
-    /// The automaton is then as before. The first that holds:
-    ///
-    /// 1. `NotHeld`: the node is not inside.
-    /// 2. `Memory`: memory ran out.
-    pub fn leave(&mut self, alloc: Global) -> Result<Reaction, LeaveError>
-        ensures left { AnswersLeave self.old result self.new }
-        ensures consistent { IsConsistent self.new }
-    {
-        self.leave_into(alloc, Messages::new(alloc))
-    }
-
-    /// Leaves as `leave` does, and puts the messages into an empty list. It does not allocate if the list has room for
-    /// a message to each node.
-    ///
-    /// # Errors
-    ///
-    /// Those of `leave`. `Memory` comes only if the list has less room.
-    pub fn leave_into(&mut self, alloc: Global, mut sends: Messages) -> Result<Reaction, LeaveError>
-        requires { sends.items ≡ [] }
-        ensures left { AnswersLeave self.old result self.new }
-        ensures consistent { IsConsistent self.new }
-        ensures room { self.old.nodes ≤ sends.spare → IsErrOf result LeaveError.Memory → ⊥ }
-    {
-        if !self.is_inside() {
-            return Err(LeaveError::NotHeld);
-        }
-        if self.push_replies(&mut sends).is_err() {
-            return Err(LeaveError::Memory);
-        }
-        self.end(alloc);
-        Ok(Reaction {
-            sends,
-            entered: false,
-        })
-    }
-
-    /// Leaves the resource and makes a request, in one event: the REPLYs come first. A number must be left. The cost
-    /// is linear in the number of nodes.
-    ///
-    /// # Errors
-    ///
-    /// The automaton is then as before, inside where it was. The first that holds:
-    ///
-    /// 1. `NotHeld`: the node is not inside.
-    /// 2. `Memory`: memory ran out.
-    pub fn leave_and_request(&mut self, alloc: Global, mode: Mode) -> Result<Reaction, LeaveError>
-        requires { self.old.highest < greatest_number }
-        ensures left { AnswersLeaveAndRequest self.old mode result self.new }
-        ensures consistent { IsConsistent self.new }
-    {
-        self.leave_and_request_into(alloc, mode, Messages::new(alloc))
-    }
-
-    /// Does what `leave_and_request` does, and puts the messages into an empty list. It does not allocate if the list
-    /// has room for two messages to each node.
-    ///
-    /// # Errors
-    ///
-    /// Those of `leave_and_request`. `Memory` comes only if the list has less room.
-    pub fn leave_and_request_into(
-        &mut self,
-        alloc: Global,
-        mode: Mode,
-        mut sends: Messages,
-    ) -> Result<Reaction, LeaveError>
-        requires number_left { self.old.highest < greatest_number }
-        requires none { sends.items ≡ [] }
-        ensures left { AnswersLeaveAndRequest self.old mode result self.new }
-        ensures consistent { IsConsistent self.new }
-        ensures room { 2 * self.old.nodes ≤ sends.spare → IsErrOf result LeaveError.Memory → ⊥ }
-    {
-        if !self.is_inside() {
-            return Err(LeaveError::NotHeld);
-        }
-        if self.push_turn(&mut sends, mode).is_err() {
-            return Err(LeaveError::Memory);
-        }
-        let room = self.end(alloc);
-        let entered = self.begin(mode, room);
-        Ok(Reaction { sends, entered })
-    }
-
-    /// Withdraws the request that waits, and sends each REPLY that is deferred. The other nodes are not told: a REPLY
-    /// that comes later is a stray. The highest number stays. The cost is linear in the number of nodes.
-    ///
-    /// # Errors
-    ///
-    /// The automaton is then as before. The first that holds:
-    ///
-    /// 1. `NotWaiting`: the node does not wait.
-    /// 2. `Memory`: memory ran out.
-    pub fn withdraw(&mut self, alloc: Global) -> Result<Reaction, WithdrawError>
-        ensures withdrawn { AnswersWithdraw self.old result self.new }
-        ensures consistent { IsConsistent self.new }
-    {
-        self.withdraw_into(alloc, Messages::new(alloc))
-    }
-
-    /// Withdraws the request as `withdraw` does, and puts the messages into an empty list. It does not allocate if the
-    /// list has room for a message to each node.
-    ///
-    /// # Errors
-    ///
-    /// Those of `withdraw`. `Memory` comes only if the list has less room.
-    pub fn withdraw_into(
-        &mut self,
-        alloc: Global,
-        mut sends: Messages,
-    ) -> Result<Reaction, WithdrawError>
-        requires { sends.items ≡ [] }
-        ensures withdrawn { AnswersWithdraw self.old result self.new }
-        ensures consistent { IsConsistent self.new }
-        ensures room { self.old.nodes ≤ sends.spare → IsErrOf result WithdrawError.Memory → ⊥ }
-    {
-        if !self.is_waiting() {
-            return Err(WithdrawError::NotWaiting);
-        }
-        let Ok(()) = self.push_replies(&mut sends) else {
-            return Err(WithdrawError::Memory);
-        };
-        // The node is idle now, so the room for deferred nodes goes.
-        let _room = self.end(alloc);
-        let entered = false;
-        Ok(Reaction { sends, entered })
-    }
-
-    /// Withdraws the request that waits and makes another one, in one event: the REPLYs come first. A number must be
-    /// left. The cost is linear in the number of nodes.
-    ///
-    /// # Errors
-    ///
-    /// The automaton is then as before. The first that holds:
-    ///
-    /// 1. `NotWaiting`: the node does not wait.
-    /// 2. `Memory`: memory ran out.
-    pub fn withdraw_and_request(
-        &mut self,
-        alloc: Global,
-        mode: Mode,
-    ) -> Result<Reaction, WithdrawError>
-        requires { self.old.highest < greatest_number }
-        ensures withdrawn { AnswersWithdrawAndRequest self.old mode result self.new }
-        ensures consistent { IsConsistent self.new }
-    {
-        self.withdraw_and_request_into(alloc, mode, Messages::new(alloc))
-    }
-
-    /// Does what `withdraw_and_request` does, and puts the messages into an empty list. It does not allocate if the
-    /// list has room for two messages to each node.
-    ///
-    /// # Errors
-    ///
-    /// Those of `withdraw_and_request`. `Memory` comes only if the list has less room.
-    pub fn withdraw_and_request_into(
-        &mut self,
-        alloc: Global,
-        mode: Mode,
-        mut sends: Messages,
-    ) -> Result<Reaction, WithdrawError>
-        requires number_left { self.old.highest < greatest_number }
-        requires none { sends.items ≡ [] }
-        ensures withdrawn { AnswersWithdrawAndRequest self.old mode result self.new }
-        ensures consistent { IsConsistent self.new }
-        ensures room { 2 * self.old.nodes ≤ sends.spare → IsErrOf result WithdrawError.Memory → ⊥ }
-    {
-        if !self.is_waiting() {
-            return Err(WithdrawError::NotWaiting);
-        }
-        let Ok(()) = self.push_turn(&mut sends, mode) else {
-            return Err(WithdrawError::Memory);
-        };
-        let room = self.end(alloc);
-        let entered = self.begin(mode, room);
-        Ok(Reaction { sends, entered })
-    }
-
     /// Raises the highest number that the node has met to this one, 0 to 2^64-1, if it is lower. It does not allocate.
     pub fn raise(&mut self, number: u64)
         ensures raised { self.new ≡ record self.old { highest = max self.old.highest number } }
@@ -483,55 +302,6 @@ impl Automaton {
         }
     }
 
-    /// Returns whether the node is inside.
-    fn is_inside(&self) -> bool
-        ensures value { IsTrue result ↔ IsInside self.now.phase }
-        ensures consistent { IsConsistent self.now }
-    {
-        matches!(self.phase, Phase::Inside { .. })
-    }
-
-    /// Returns whether the node waits.
-    fn is_waiting(&self) -> bool
-        ensures value { IsTrue result ↔ IsWaitingPhase self.now.phase }
-        ensures consistent { IsConsistent self.now }
-    {
-        matches!(self.phase, Phase::Waiting { .. })
-    }
-
-    /// Adds the REPLYs that are deferred. It does not allocate if there is room for one to each node.
-    ///
-    /// # Errors
-    ///
-    /// `Memory`: memory ran out. Some REPLYs may have been added.
-    fn push_replies(&self, sends: &mut Messages) -> Result<(), Memory>
-        ensures ok { OnOk result (sends.new.items ≡ sends.old.items ++ map (λ deferred.
-            Message.Reply self.now.me deferred.0 self.now.name deferred.1) (finmap.entries self.now.deferred)) }
-        ensures succeeds { self.now.nodes ≤ sends.old.spare → IsOk result }
-        ensures spare { self.now.nodes ≤ sends.old.spare → sends.old.spare ≤ sends.new.spare + self.now.nodes }
-    {
-        let me = self.member.node();
-        self.deferrals.push_replies(sends, me, self.name)
-    }
-
-    /// Adds the REPLYs that are deferred and then the REQUESTs that a client makes next, in this mode. It does not
-    /// allocate if there is room for two messages to each node.
-    ///
-    /// # Errors
-    ///
-    /// `Memory`: memory ran out. Some of these messages may have been added.
-    fn push_turn(&self, sends: &mut Messages, mode: Mode) -> Result<(), Memory>
-        requires { self.now.highest < greatest_number }
-        ensures ok { OnOk result (sends.new.items ≡ (sends.old.items ++ map (λ deferred.
-            Message.Reply self.now.me deferred.0 self.now.name deferred.1) (finmap.entries self.now.deferred))
-            ++ map (λ other. Message.Request self.now.me other self.now.name mode (self.now.highest + 1))
-            (others_of self.now.me self.now.nodes)) }
-        ensures succeeds { 2 * self.now.nodes ≤ sends.old.spare → IsOk result }
-    {
-        self.push_replies(sends)?;
-        push_requests(sends, self.member, self.name, mode, self.highest + 1)
-    }
-
     /// Begins a request, once its messages are made, with room for the nodes that will be deferred. Returns whether it
     /// is granted at once.
     fn begin(&mut self, mode: Mode, room: Deferrals) -> bool
@@ -550,27 +320,6 @@ impl Automaton {
         self.phase = Phase::Waiting { seq, mode };
         self.awaited = NodeSet::others(self.member);
         false
-    }
-
-    /// Ends a request, once the REPLYs are made. Returns the room for deferred nodes, for the next request. It does not
-    /// allocate.
-    fn end(&mut self, alloc: Global) -> Deferrals
-        requires { self.old.phase ≢ Phase.Idle }
-        ensures ended { self.new ≡ record self.old {
-          phase = Phase.Idle;
-          awaited = set.empty;
-          deferred = finmap.empty;
-        } }
-        // A node inside awaited nobody.
-        ensures inside { IsInside self.old.phase
-            → self.new ≡ record self.old { phase = Phase.Idle; deferred = finmap.empty } }
-        ensures room { result ≡ nobody_of self.old.nodes }
-    {
-        self.phase = Phase::Idle;
-        self.awaited = NodeSet::empty();
-        let mut room = mem::replace(&mut self.deferrals, Deferrals::none(alloc));
-        room.clear();
-        room
     }
 
     /// Returns what a REQUEST of another node leads to.
