@@ -33,7 +33,7 @@ use Rattle.ra_book.proofs.Whole.{HasWholeHistory, whole_histories}
 -- ---- The place of an item in a list
 
 -- a place of two joined lists is in the first or in the second
-place_in : {X : Type 0} (xs ys prefix : List X) (z : X) (suffix : List X) → xs ++ ys ≡ prefix ++ z ∷ suffix
+pub place_in : {X : Type 0} (xs ys prefix : List X) (z : X) (suffix : List X) → xs ++ ys ≡ prefix ++ z ∷ suffix
     → ((rest : List X) × (xs ≡ prefix ++ z ∷ rest)) ⊎ ((more : List X) × (prefix ≡ xs ++ more) × (ys ≡ more ++ z ∷ suffix))
 place_in [] ys prefix z suffix e = inr (prefix, refl, e)
 place_in (x ∷ xs) ys [] z suffix e = let same : x ≡ z = cc in inl (xs, ap (λ y. y ∷ xs) same)
@@ -46,13 +46,13 @@ place_in {X} (x ∷ xs) ys (f ∷ prefix) z suffix e =
     ]
 
 -- a place of a list of values is that of a value
-record Cut {X Y : Type 0} (f : X → Y) (xs : List X) (prefix : List Y) (y : Y) : Type 0 where
-  before : List X
-  this : X
-  after : List X
-  parts : xs ≡ before ++ this ∷ after
-  before_is : map f before ≡ prefix
-  this_is : f this ≡ y
+pub record Cut {X Y : Type 0} (f : X → Y) (xs : List X) (prefix : List Y) (y : Y) : Type 0 where
+  pub before : List X
+  pub this : X
+  pub after : List X
+  pub parts : xs ≡ before ++ this ∷ after
+  pub before_is : map f before ≡ prefix
+  pub this_is : f this ≡ y
 
 cut_more : {X Y : Type 0} (f : X → Y) (x : X) (xs : List X) (z : Y) (prefix : List Y) (y : Y) → f x ≡ z → Cut f xs prefix y → Cut f (x ∷ xs) (z ∷ prefix) y
 cut_more f x xs z prefix y head found =
@@ -65,7 +65,7 @@ cut_more f x xs z prefix y head found =
       this_is = found.this_is;
     }
 
-cut : {X Y : Type 0} (f : X → Y) (xs : List X) (prefix : List Y) (y : Y) (suffix : List Y) → map f xs ≡ prefix ++ y ∷ suffix → Cut f xs prefix y
+pub cut : {X Y : Type 0} (f : X → Y) (xs : List X) (prefix : List Y) (y : Y) (suffix : List Y) → map f xs ≡ prefix ++ y ∷ suffix → Cut f xs prefix y
 cut f [] [] y suffix e = absurd (cc)
 cut f [] (z ∷ prefix) y suffix e = absurd (cc)
 cut f (x ∷ xs) [] y suffix e = record { before = []; this = x; after = xs; parts = refl; before_is = refl; this_is = cc }
@@ -151,6 +151,18 @@ module _ (books : List BookState) (placed : List Placed) (cluster : IsCluster bo
       ∙ ap (λ (es : List Event). flat_map (events_at i) (steps_of placed) ++ es) (sym (nothing_by_losses i ms))
       ∙ sym (flat_map-append (events_at i) (steps_of placed) (losses ms))
 
+  -- what happened at a node sent the messages of its book
+  sent_there : (k : ℕ) (d : BookState) → k < n → sent_in (happens (k + 1)) ≡ messages_of (get_or books k d)
+  sent_there k d low =
+      let found = happened_at_place books histories k d low in
+      let same : happens (k + 1) ≡ map happening_of found.0.leads.postings = ap (happened_in books histories) (omega arith) ∙ found.1 in
+      ap sent_in same ∙ sent_of_book (get_or books k d) found.0
+
+  -- if moves in which that happened sent different messages, so did each book
+  pub each_different : (moves : List Move) → ((i : ℕ) → 1 ≤ i → i ≤ n → happened_at i moves ≡ happens i) → AreDifferent (sent_by moves) → All (λ b. AreDifferent (messages_of b)) books
+  each_different moves happened different k d low =
+      subst AreDifferent (ap sent_in (happened (k + 1) (omega arith) (omega (arith, low))) ∙ sent_there k d low) (different_at (k + 1) moves different)
+
   -- if all that came was sent, and no message came twice
   module _ (all_sent : All (λ f. WasSent books f) (all_received books)) (came : AreDifferent (map (λ f. f.message) (all_received books))) where
     -- after all events all that happened at a node has happened
@@ -226,17 +238,8 @@ module _ (books : List BookState) (placed : List Placed) (cluster : IsCluster bo
       events_ran = fitting n start (steps_of placed ++ losses []) happens count
           (fit [] (All-nil WentOut) (subst AreDifferent (sym (append-nil (delivered placed))) has_no_duplicates))
 
-      sent_there : (k : ℕ) (d : BookState) → k < n → sent_in (happens (k + 1)) ≡ messages_of (get_or books k d)
-      sent_there k d low =
-          let found = happened_at_place books histories k d low in
-          let same : happens (k + 1) ≡ map happening_of found.0.leads.postings = ap (happened_in books histories) (omega arith) ∙ found.1 in
-          ap sent_in same ∙ sent_of_book (get_or books k d) found.0
-
-      each_different : All (λ b. AreDifferent (messages_of b)) books
-      each_different k d low =
-          let once : repeated_by events_ran.0 ≡ [] = nothing_repeated events_ran.0 placed [] events_ran.1 in
-          let here = different_at (k + 1) events_ran.0 (differ n start events_ran.0 count events_ran.2 once) in
-          subst AreDifferent (ap sent_in (events_ran.3 (k + 1) (omega arith) (omega (arith, low))) ∙ sent_there k d low) here
+      different_books : All (λ b. AreDifferent (messages_of b)) books
+      different_books = each_different events_ran.0 events_ran.3 (differ n start events_ran.0 count events_ran.2 (nothing_repeated events_ran.0 placed [] events_ran.1))
 
       lost_went_out : All WentOut (all_lost books)
       lost_went_out =
@@ -249,7 +252,7 @@ module _ (books : List BookState) (placed : List Placed) (cluster : IsCluster bo
       settled_ran : Ran (settled_steps books placed)
       settled_ran = fitting n start (settled_steps books placed) happens count
           (fit (all_lost books) lost_went_out
-          (all_apart books cluster own each_different placed (sent_all books placed cluster histories order all_sent) has_no_duplicates))
+          (all_apart books cluster own different_books placed (sent_all books placed cluster histories order all_sent) has_no_duplicates))
 
       pub is_run : WorldRun n start (settled_steps books placed)
       is_run = (settled_ran.0, settled_ran.1, settled_ran.2)

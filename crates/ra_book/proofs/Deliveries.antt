@@ -24,7 +24,7 @@ use Rattle.ra_book.proofs.Merging.{number_at}
 use Rattle.ra_book.proofs.Projections.{IsAddressed, projected, all_placed, all_addressed}
 use Rattle.ra_book.proofs.Received.{all_received_split}
 use Rattle.ra_book.proofs.Distinct.{AreDifferent, all_left, all_right, pairs_left, pairs_right, pairs_first, kept_apart, in_map}
-use Rattle.ra_book.proofs.Happened.{happened_in, postings_in, posted_at_place, sent_by_first, sent_in_frames}
+use Rattle.ra_book.proofs.Happened.{happened_in, postings_in, posted_at_place, sent_in_parts, sent_by_first, sent_in_frames}
 use Rattle.ra_book.proofs.Whole.{HasWholeHistory}
 
 -- ---- The clocks of the frames that came
@@ -61,7 +61,7 @@ events_late : (clock i : ℕ) (placed : List Placed) → All (λ q. clock ≤ q.
 events_late clock i placed late =
     All-map (λ e. clock ≤ e.clock) (λ p. p.event) (filter (λ p. eqb p.node i) placed) (All-filter (λ p. eqb p.node i) (λ q. clock ≤ q.event.clock) placed late)
 
-events_of_parts : (i : ℕ) (prefix suffix : List Placed) → events_of i (prefix ++ suffix) ≡ events_of i prefix ++ events_of i suffix
+pub events_of_parts : (i : ℕ) (prefix suffix : List Placed) → events_of i (prefix ++ suffix) ≡ events_of i prefix ++ events_of i suffix
 events_of_parts i prefix suffix =
     ap (λ (ps : List Placed). map (λ p. p.event) ps) (filter-append (λ p. eqb p.node i) prefix suffix)
     ∙ map-append (λ p. p.event) (filter (λ p. eqb p.node i) prefix) (filter (λ p. eqb p.node i) suffix)
@@ -108,7 +108,7 @@ kept_there i node Forget to = sym (nothing_kept (eqb node i))
 kept_there i node (Receive frame) to = ap (λ (n : ℕ). cond (eqb n i) (frame.message ∷ []) []) to
 
 -- those for a node are those that came there
-delivered_to : (i : ℕ) (placed : List Placed) → All (λ p. IsAddressed p.node p.event.kind) placed → filter (λ m. eqb (to_of m) i) (delivered placed) ≡ messages_among (events_of i placed)
+pub delivered_to : (i : ℕ) (placed : List Placed) → All (λ p. IsAddressed p.node p.event.kind) placed → filter (λ m. eqb (to_of m) i) (delivered placed) ≡ messages_among (events_of i placed)
 delivered_to i [] all = refl
 delivered_to i (p ∷ placed) all =
     filter-append (λ m. eqb (to_of m) i) (taken_in (step_at p.node p.event.kind)) (delivered placed)
@@ -154,7 +154,7 @@ module _ (books : List BookState) (placed : List Placed) (cluster : IsCluster bo
         (λ k d low. all_in_each (λ f. WasSent books f) (λ e. frames_in e.kind) (get_or books k d).events (all_in_each (λ f. WasSent books f) (λ b. received_among b.events) books all_sent k d low))
 
     module _ (prefix : List Placed) (p : Placed) (suffix : List Placed) (parts : placed ≡ prefix ++ p ∷ suffix) where
-      addressed_prefix : All (λ p. IsAddressed p.node p.event.kind) prefix
+      pub addressed_prefix : All (λ p. IsAddressed p.node p.event.kind) prefix
       addressed_prefix = all_left (λ p. IsAddressed p.node p.event.kind) prefix (p ∷ suffix) (subst (All (λ p. IsAddressed p.node p.event.kind)) parts addressed_all)
 
       abbrev Here : (Placed → Type 0) → Type 0
@@ -166,28 +166,47 @@ module _ (books : List BookState) (placed : List Placed) (cluster : IsCluster bo
       late : (i : ℕ) → All (λ e. p.event.clock ≤ e.clock) (events_of i (p ∷ suffix))
       late i = events_late p.event.clock i (p ∷ suffix) (from_there prefix p suffix (subst (AllPairs IsBefore) parts order.sorted))
 
-      -- a frame of this clock or an earlier one is among those that its sender's events before sent
+      -- of the book at a place: what its node did before, and the events from there on
+      module _ (k : ℕ) (b : BookState) (low : k < n) (i : ℕ) (me : (get_or books k b).me ≡ i) where
+        abbrev it : BookState
+        it = get_or books k b
+
+        parts_of : it.events ≡ events_of i prefix ++ events_of i (p ∷ suffix)
+        parts_of = sym (order.each k b low) ∙ ap (λ (m : ℕ). events_of m placed) me ∙ ap (events_of i) parts ∙ events_of_parts i prefix (p ∷ suffix)
+
+        -- the frames that its first events sent are those that the node sent before
+        first_are : (found : (history : HasWholeHistory it) × (postings_in books histories k ≡ history.leads.postings))
+            → frames_of (take (length (events_of i prefix)) found.0.leads.postings) ≡ frames_first i prefix
+        first_are found =
+            let many : length (events_of i prefix) ≡ length (flat_map (events_at i) (steps_of prefix)) =
+            sym (ap length (projected i prefix addressed_prefix) ∙ length-map (events_of i prefix) (λ e. node_event e.kind))
+            in
+            let number = number_at books cluster k b low in
+            let same : found.0.leads.postings ≡ postings_in books histories (i - 1) = sym found.1 ∙ ap (postings_in books histories) (omega (arith, number, me)) in
+            λ j. frames_of (take (many j) (same j))
+
+        -- the book has the frames that the node sent before, and then those of this clock or later ones
+        pub sent_before_and_later : (later : List Frame) × (map (λ s. s.frame) it.sent ≡ frames_first i prefix ++ later) × All (λ f. p.event.clock ≤ f.clock) later
+        sent_before_and_later =
+            let found = posted_at_place books histories k b low in
+            let split = sent_in_parts it found.0 p.event.clock (events_of i prefix) (events_of i (p ∷ suffix)) parts_of (late i) in
+            (split.0, split.1 ∙ ap (λ (fs : List Frame). fs ++ split.0) (first_are found), split.2)
+
+        sent_by_its_first : (f : Frame) → f.clock < p.event.clock → Contains it.sent (record { frame = f; lost = false }) → Contains (frames_first i prefix) f
+        sent_by_its_first f less kept =
+            let found = posted_at_place books histories k b low in
+            subst (λ (fs : List Frame). Contains fs f) (first_are found)
+            (sent_by_first it found.0 f p.event.clock (events_of i prefix) (events_of i (p ∷ suffix)) parts_of (late i) less kept)
+
+      -- a frame of an earlier clock than this event is among those that its sender's events before sent
       pub frame_before : (f : Frame) → f.clock < p.event.clock → WasSent books f
           → (1 ≤ from_of f.message) × (from_of f.message ≤ n) × Contains (frames_first (from_of f.message) prefix) f
       frame_before f less (k, b, low, at, is) =
-          let found = posted_at_place books histories k b low in
           let it = get_or books k b in
-          let i : ℕ = from_of f.message in
           let number : it.me ≡ k + 1 = number_at books cluster k b low in
-          let me : it.me ≡ i = ap (λ (x : BookState). x.me) at ∙ is.0 in
-          let parts_are : it.events ≡ events_of i prefix ++ events_of i (p ∷ suffix) =
-          sym (order.each k b low) ∙ ap (λ (m : ℕ). events_of m placed) me ∙ ap (events_of i) parts ∙ events_of_parts i prefix (p ∷ suffix)
-          in
+          let me : it.me ≡ from_of f.message = ap (λ (x : BookState). x.me) at ∙ is.0 in
           let kept : Contains it.sent (record { frame = f; lost = false }) = subst (λ (x : BookState). Contains x.sent (record { frame = f; lost = false })) (sym at) is.1 in
-          let first = sent_by_first it found.0 f p.event.clock (events_of i prefix) (events_of i (p ∷ suffix)) parts_are (late i) less kept in
-          let many : length (events_of i prefix) ≡ length (flat_map (events_at i) (steps_of prefix)) =
-          sym (ap length (projected i prefix addressed_prefix) ∙ length-map (events_of i prefix) (λ e. node_event e.kind))
-          in
-          let same : found.0.leads.postings ≡ postings_in books histories (i - 1) = sym found.1 ∙ ap (postings_in books histories) (omega (arith, number, me)) in (
-            omega (arith, number, me),
-            omega (arith, number, me, low),
-            subst (λ (fs : List Frame). Contains fs f) (λ j. frames_of (take (many j) (same j))) first,
-          )
+          (omega (arith, number, me), omega (arith, number, me, low), sent_by_its_first k b low (from_of f.message) me f less kept)
 
       -- the frames that come with the event have earlier clocks, and were sent
       pub come_before : All (λ f. (f.clock < p.event.clock) × WasSent books f) (frames_in p.event.kind)

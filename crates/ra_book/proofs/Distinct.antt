@@ -91,7 +91,7 @@ kept_first p x xs true e different = pairs_rest (λ a b. a ≢ b) x (filter p xs
 kept_first p x xs false e different = different
 
 -- what passes the test is among what passes it
-passes_in : {X : Type 0} (p : X → Bool) (xs : List X) (x : X) → p x ≡ true → Contains xs x → Contains (filter p xs) x
+pub passes_in : {X : Type 0} (p : X → Bool) (xs : List X) (x : X) → p x ≡ true → Contains xs x → Contains (filter p xs) x
 passes_in p [] x e is = absurd (omega (arith, is.1))
 passes_in p (y ∷ ys) x e (zero, low, same) =
     subst (λ b. Contains (cond b (y ∷ filter p ys) (filter p ys)) x) (sym (ap p same ∙ e)) (0, omega arith, same)

@@ -1,8 +1,8 @@
 -- What happened at each node, by the books, and what a node had sent by its first events.
-use Rattle.std.proofs.Common.{◌≡◌, ℕ, zero, suc, ◌<◌, ◌≤◌, List, [], ◌∷◌, ◌++◌, map, length, get_or, take, drop, false, refl, sym, ap, ◌∙◌, subst, arith, inl, inr}
+use Rattle.std.proofs.Common.{◌≡◌, ℕ, zero, suc, ◌<◌, ◌≤◌, List, [], ◌∷◌, ◌++◌, map, length, get_or, take, drop, false, refl, append_assoc, sym, ap, ◌∙◌, subst, arith, inl, inr}
 use Rattle.std.specs.Prelude.{All, Contains}
 use Rattle.std.proofs.lemmas.List.{map-append, drop-map, drop_at, take-append-drop}
-use Rattle.std.proofs.lemmas.List.Elements.{All-nil, All-head, All-tail, All-map, All-append, All-contains, Contains-append_cases, Contains-append_left, Contains-append_right}
+use Rattle.std.proofs.lemmas.List.Elements.{All-nil, All-head, All-tail, All-map, All-append, All-contains, Contains-append_cases}
 use Rattle.ra_stamp.specs.declared.message.Message.{Message}
 use Rattle.ra_frame.specs.declared.frame.Frame.{Frame}
 use Rattle.ra_node.specs.Events.{Event, Happening}
@@ -56,7 +56,7 @@ sent_in_frames (p ∷ postings) =
     (λ j. sym (out_again p.event.clock p.sends) j ++ sent_in_frames postings j)
     ∙ sym (map-append (λ f. f.message) (frames_at p.event.clock p.sends) (frames_of postings))
 
-messages_sent : (sent : List Sent) → map (λ (f : Frame). f.message) (map (λ (s : Sent). s.frame) sent) ≡ map (λ s. s.frame.message) sent
+pub messages_sent : (sent : List Sent) → map (λ (f : Frame). f.message) (map (λ (s : Sent). s.frame) sent) ≡ map (λ s. s.frame.message) sent
 messages_sent [] = refl
 messages_sent (s ∷ sent) = ap (λ (ms : List Message). s.frame.message ∷ ms) (messages_sent sent)
 
@@ -66,29 +66,23 @@ sent_of_book b history = sent_in_frames history.leads.postings ∙ ap (map (λ f
 
 -- ---- What was sent before a clock
 
-late_frames : (clock : ℕ) (postings : List Posting) → All (λ p. clock ≤ p.event.clock) postings → All (λ f. clock ≤ f.clock) (frames_of postings)
+pub late_frames : (clock : ℕ) (postings : List Posting) → All (λ p. clock ≤ p.event.clock) postings → All (λ f. clock ≤ f.clock) (frames_of postings)
 late_frames clock [] late = All-nil (λ f. clock ≤ f.clock)
 late_frames clock (p ∷ postings) late =
     All-append (λ f. clock ≤ f.clock) (frames_at p.event.clock p.sends) (frames_of postings)
     (All-map (λ f. clock ≤ f.clock) (λ m. record { clock = p.event.clock; message = m }) p.sends (λ k d low. All-head (λ p. clock ≤ p.event.clock) p postings late))
     (late_frames clock postings (All-tail (λ p. clock ≤ p.event.clock) p postings late))
 
--- a frame with a lesser clock than all later events went out before them
-sent_earlier : (clock : ℕ) (prefix rest : List Posting) (f : Frame) → All (λ p. clock ≤ p.event.clock) rest → f.clock < clock → Contains (frames_of (prefix ++ rest)) f
-    → Contains (frames_of prefix) f
-sent_earlier clock [] rest f late less is =
-    let low : clock ≤ f.clock = All-contains (λ g. clock ≤ g.clock) (frames_of rest) f (late_frames clock rest late) is in
-    absurd (omega (arith, low, less))
-sent_earlier clock (p ∷ prefix) rest f late less is =
-    elim (Contains-append_cases (frames_at p.event.clock p.sends) (frames_of (prefix ++ rest)) f is) [
-      | inl here ↦ Contains-append_left (frames_at p.event.clock p.sends) (frames_of prefix) f here
-      | inr after ↦ Contains-append_right (frames_at p.event.clock p.sends) (frames_of prefix) f (sent_earlier clock prefix rest f late less after)
-    ]
+pub frames_in_parts : (prefix rest : List Posting) → frames_of (prefix ++ rest) ≡ frames_of prefix ++ frames_of rest
+frames_in_parts [] rest = refl
+frames_in_parts (p ∷ prefix) rest =
+    ap (λ (fs : List Frame). frames_at p.event.clock p.sends ++ fs) (frames_in_parts prefix rest)
+    ∙ sym (append_assoc (frames_at p.event.clock p.sends) (frames_of prefix) (frames_of rest))
 
--- the same, of the events of a book
-pub sent_by_first : (b : BookState) (history : HasWholeHistory b) (f : Frame) (clock : ℕ) (done left : List BookEvent) → b.events ≡ done ++ left → All (λ e. clock ≤ e.clock) left → f.clock < clock
-    → Contains b.sent (record { frame = f; lost = false }) → Contains (frames_of (take (length done) history.leads.postings)) f
-sent_by_first b history f clock done left parts late less kept =
+-- a book has the frames that its first events sent, and then those of the other events, which are no earlier than these
+pub sent_in_parts : (b : BookState) (history : HasWholeHistory b) (clock : ℕ) (done left : List BookEvent) → b.events ≡ done ++ left → All (λ e. clock ≤ e.clock) left
+    → (later : List Frame) × (map (λ s. s.frame) b.sent ≡ frames_of (take (length done) history.leads.postings) ++ later) × All (λ f. clock ≤ f.clock) later
+sent_in_parts b history clock done left parts late =
     let postings = history.leads.postings in
     let many = length done in
     let left_are : map (λ p. p.event) (drop many postings) ≡ left =
@@ -96,9 +90,22 @@ sent_by_first b history f clock done left parts late less kept =
     in
     let late_postings : All (λ p. clock ≤ p.event.clock) (drop many postings) =
     all_of_map (λ e. clock ≤ e.clock) (λ p. p.event) (drop many postings) (subst (λ (es : List BookEvent). All (λ e. clock ≤ e.clock) es) (sym left_are) late)
-    in
-    let went_out : Contains (frames_of postings) f =
-    subst (λ (fs : List Frame). Contains fs f) history.leads.sent_are (in_map (λ s. s.frame) b.sent (record { frame = f; lost = false }) kept)
-    in
-    sent_earlier clock (take many postings) (drop many postings) f late_postings less
-    (subst (λ (ps : List Posting). Contains (frames_of ps) f) (sym (take-append-drop many postings)) went_out)
+    in (
+      frames_of (drop many postings),
+      history.leads.sent_are ∙ ap frames_of (sym (take-append-drop many postings)) ∙ frames_in_parts (take many postings) (drop many postings),
+      late_frames clock (drop many postings) late_postings,
+    )
+
+-- so a frame with a lesser clock than all later events went out before them
+pub sent_by_first : (b : BookState) (history : HasWholeHistory b) (f : Frame) (clock : ℕ) (done left : List BookEvent) → b.events ≡ done ++ left → All (λ e. clock ≤ e.clock) left → f.clock < clock
+    → Contains b.sent (record { frame = f; lost = false }) → Contains (frames_of (take (length done) history.leads.postings)) f
+sent_by_first b history f clock done left parts late less kept =
+    let split = sent_in_parts b history clock done left parts late in
+    let first = frames_of (take (length done) history.leads.postings) in
+    elim (Contains-append_cases first split.0 f
+    (subst (λ (fs : List Frame). Contains fs f) split.1 (in_map (λ s. s.frame) b.sent (record { frame = f; lost = false }) kept))) [
+      | inl here ↦ here
+      | inr after ↦
+          let low : clock ≤ f.clock = All-contains (λ g. clock ≤ g.clock) split.0 f split.2 after in
+          absurd (omega (arith, low, less))
+    ]

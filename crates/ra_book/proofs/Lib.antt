@@ -44,4 +44,12 @@ mod CopiesSettled
 mod Departing
 mod TakenEvents
 mod KeptLaws
+mod SettledOrders
+mod PairedBooks
+mod PairedApart
+mod TakenAndSent
+mod NotCome
+mod FirstParts
+mod CutBooks
+mod BookEnds
 mod SettlingLaws

@@ -2,7 +2,7 @@
 -- book's own are.
 use Rattle.std.proofs.Common.{◌≡◌, ◌≢◌, ◌⊎◌, ℕ, ◌+◌, ◌<◌, Bool, true, false, cond, List, [], ◌∷◌, ◌++◌, map, length, get_or, refl, sym, ap, ◌∙◌, subst, arith, inl, inr}
 use Rattle.std.specs.Prelude.{All, AllPairs, Contains}
-use Rattle.std.specs.List.{filter}
+use Rattle.std.specs.List.{filter, flat_map}
 use Rattle.std.proofs.lemmas.Bool.{false≢true}
 use Rattle.std.proofs.lemmas.List.{get_or_default}
 use Rattle.std.proofs.lemmas.List.Elements.{All-head, All-tail, All-map, All-filter, All-weaker, All-contains}
@@ -70,43 +70,47 @@ kept_or_lost (s ∷ sent) f different kept lost =
 
 -- ---- Of several books
 
--- what is lost is from one of the books
-lost_not_from : (i : ℕ) (books : List BookState) → All (λ b. b.me ≢ i) books → All (λ b. All (λ m. from_of m ≡ b.me) (lost_among b.sent)) books → All (λ m. from_of m ≢ i) (all_lost books)
-lost_not_from i books others from =
-    all_of_each (λ m. from_of m ≢ i) (λ b. lost_among b.sent) books
-    (λ k d low.
-    let b = get_or books k d in
-    All-weaker (λ m. from_of m ≡ b.me) (λ m. from_of m ≢ i) (λ m is same. others k d low (sym is ∙ same)) (lost_among b.sent) (from k d low))
+-- lists of messages of each book, which tell it by a number in each message: that of its node
+module _ (g : BookState → List Message) (number : Message → ℕ) where
+  abbrev TellTheirBook : List BookState → Type 0
+  TellTheirBook books = All (λ b. All (λ m. number m ≡ b.me) (g b)) books
 
-lost_of_others : (books : List BookState) → AllPairs (λ a b. a.me ≢ b.me) books → All (λ b. AreDifferent (lost_among b.sent)) books → All (λ b. All (λ m. from_of m ≡ b.me) (lost_among b.sent)) books
-    → AreDifferent (all_lost books)
-lost_of_others [] numbers each from = λ i j d below within. absurd (omega (arith, within))
-lost_of_others (b ∷ books) numbers each from =
-    let others : All (λ m. from_of m ≢ b.me) (all_lost books) =
-    lost_not_from b.me books (All-weaker (λ x. b.me ≢ x.me) (λ x. x.me ≢ b.me) (λ x apart same. apart (sym same)) books (pairs_first (λ a b. a.me ≢ b.me) b books numbers))
-    (All-tail (λ b. All (λ m. from_of m ≡ b.me) (lost_among b.sent)) b books from)
-    in
-    pairs_joined (λ a b. a ≢ b) (lost_among b.sent) (all_lost books)
-    (All-head (λ b. AreDifferent (lost_among b.sent)) b books each)
-    (lost_of_others books (pairs_rest (λ a b. a.me ≢ b.me) b books numbers) (All-tail (λ b. AreDifferent (lost_among b.sent)) b books each)
-    (All-tail (λ b. All (λ m. from_of m ≡ b.me) (lost_among b.sent)) b books from))
-    (All-weaker (λ m. from_of m ≡ b.me) (λ m. All (λ x. m ≢ x) (all_lost books))
-    (λ m is. All-weaker (λ x. from_of x ≢ b.me) (λ x. m ≢ x) (λ x other same. other (ap from_of (sym same) ∙ is)) (all_lost books) others)
-    (lost_among b.sent) (All-head (λ b. All (λ m. from_of m ≡ b.me) (lost_among b.sent)) b books from))
+  of_no_other : (i : ℕ) (books : List BookState) → All (λ b. b.me ≢ i) books → TellTheirBook books → All (λ m. number m ≢ i) (flat_map g books)
+  of_no_other i books others tell =
+      all_of_each (λ m. number m ≢ i) g books
+      (λ k d low.
+      let b = get_or books k d in
+      All-weaker (λ m. number m ≡ b.me) (λ m. number m ≢ i) (λ m is same. others k d low (sym is ∙ same)) (g b) (tell k d low))
+
+  -- are different, if each book's own are
+  pub apart_by_book : (books : List BookState) → AllPairs (λ a b. a.me ≢ b.me) books → All (λ b. AreDifferent (g b)) books → TellTheirBook books → AreDifferent (flat_map g books)
+  apart_by_book [] numbers each tell = λ i j d below within. absurd (omega (arith, within))
+  apart_by_book (b ∷ books) numbers each tell =
+      let others : All (λ m. number m ≢ b.me) (flat_map g books) =
+      of_no_other b.me books (All-weaker (λ x. b.me ≢ x.me) (λ x. x.me ≢ b.me) (λ x apart same. apart (sym same)) books (pairs_first (λ a b. a.me ≢ b.me) b books numbers))
+      (All-tail (λ b. All (λ m. number m ≡ b.me) (g b)) b books tell)
+      in
+      pairs_joined (λ a b. a ≢ b) (g b) (flat_map g books)
+      (All-head (λ b. AreDifferent (g b)) b books each)
+      (apart_by_book books (pairs_rest (λ a b. a.me ≢ b.me) b books numbers) (All-tail (λ b. AreDifferent (g b)) b books each)
+      (All-tail (λ b. All (λ m. number m ≡ b.me) (g b)) b books tell))
+      (All-weaker (λ m. number m ≡ b.me) (λ m. All (λ x. m ≢ x) (flat_map g books))
+      (λ m is. All-weaker (λ x. number x ≢ b.me) (λ x. m ≢ x) (λ x other same. other (ap number (sym same) ∙ is)) (flat_map g books) others)
+      (g b) (All-head (λ b. All (λ m. number m ≡ b.me) (g b)) b books tell))
+
+pub numbers_apart : (books : List BookState) → IsCluster books → AllPairs (λ a b. a.me ≢ b.me) books
+numbers_apart books cluster i j d below within same =
+    let low : i < length books = omega (arith, below, within) in
+    omega (arith, below, sym (number_at books cluster i d low) ∙ same ∙ number_at books cluster j d within)
 
 module _ (books : List BookState) (cluster : IsCluster books) (own : All (λ b. All (λ s. from_of s.frame.message ≡ b.me) b.sent) books) (different : All (λ b. AreDifferent (messages_of b)) books) where
-  numbers_apart : AllPairs (λ a b. a.me ≢ b.me) books
-  numbers_apart i j d below within same =
-      let low : i < length books = omega (arith, below, within) in
-      omega (arith, below, sym (number_at books cluster i d low) ∙ same ∙ number_at books cluster j d within)
-
   own_lost : All (λ b. All (λ m. from_of m ≡ b.me) (lost_among b.sent)) books
   own_lost k d low =
       let b = get_or books k d in
       All-map (λ m. from_of m ≡ b.me) message_in (filter (λ s. s.lost) b.sent) (All-filter (λ s. s.lost) (λ s. from_of s.frame.message ≡ b.me) b.sent (own k d low))
 
   pub lost_apart : AreDifferent (all_lost books)
-  lost_apart = lost_of_others books numbers_apart (λ k d low. different_kept message_in (λ s. s.lost) (get_or books k d).sent (different k d low)) own_lost
+  lost_apart = apart_by_book (λ b. lost_among b.sent) from_of books (numbers_apart books cluster) (λ k d low. different_kept message_in (λ s. s.lost) (get_or books k d).sent (different k d low)) own_lost
 
   -- a frame that was sent and kept has the message of none that was lost
   sent_not_lost : (f : Frame) → WasSent books f → Contains (all_lost books) f.message → ⊥

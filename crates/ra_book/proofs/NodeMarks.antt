@@ -146,7 +146,7 @@ events_posted [] happened fit = refl
 events_posted (e ∷ events) [] fit = absurd (none_some fit)
 events_posted (e ∷ events) (h ∷ happened) fit = ap (λ (es : List BookEvent). e ∷ es) (events_posted events happened (tail_of fit))
 
-happened_posted : (events : List BookEvent) (happened : List Happening) → Fit events happened → map happening_of (posted events happened) ≡ happened
+pub happened_posted : (events : List BookEvent) (happened : List Happening) → Fit events happened → map happening_of (posted events happened) ≡ happened
 happened_posted [] [] fit = refl
 happened_posted [] (h ∷ happened) fit = absurd (none_some (sym fit))
 happened_posted (e ∷ events) [] fit = absurd (none_some fit)

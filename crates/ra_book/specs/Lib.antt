@@ -6,6 +6,8 @@ pub mod Refused
 pub mod EventChecks
 pub mod Timed
 pub mod Settled
+pub mod Pairs
+pub mod Cut
 pub mod Repeats
 pub mod SettlingParts
 pub mod EventMerge

@@ -1,4 +1,7 @@
 //! What is true of histories, for the crates above. Each function does nothing, and its contract is the law.
+pub mod cut_books;
+pub mod holders;
+pub mod paired_books;
 pub mod settled_fairness;
 pub mod settling_with_copies;
 pub mod timed_histories;
