@@ -2,11 +2,10 @@
 // The page that tools/explore serves. Of each beginning of the run, `ra` prints the state by `sim --state`, the trace by
 // `sim --trace`, the verdict by `check` and the picture by `draw`. The page makes no step by itself. It adds words on what the
 // last step changed and why, on who waits for whom, and on whether the run is quiet; for these it knows which modes conflict and
-// which stamp is earlier. Of a run with copies, it asks for the state without them.
+// which stamp is earlier. Of a run with copies, it asks for the state without them. Of a trace of version 3, which may have cancels,
+// forgets and sends, it makes the steps by the rules in rules.js, and `ra check` confirms what stands after them.
 
 const MODES = {S: "shared", X: "exclusive", IS: "intent shared", IX: "intent exclusive", SIX: "shared and intent exclusive"};
-const COMPATIBLE = new Set(["IS IS", "IS IX", "IX IS", "IX IX", "IS S", "S IS", "S S", "IS SIX", "SIX IS"]);
-const conflict = (one, other) => !COMPATIBLE.has(`${one} ${other}`);
 // The most lines of a trace that are drawn: the last ones.
 const MOST_DRAWN = 400;
 // The most steps of a trace that is opened.
@@ -17,7 +16,9 @@ const MOST_CLIENTS = 64;
 
 // The run: a script, the steps that are known, and how many of them were taken. A step is a choice, such as `c1` or `m0`. From the
 // first repeat on, it is the line of a trace instead, since no choice is a repeat.
-const run = {name: "", script: "", steps: [], at: 0};
+//
+// Of a trace of version 3, `rules` has its first line and what its clients ask for, and each step is a line. Then there is no script.
+const run = {name: "", script: "", rules: null, steps: [], at: 0};
 // What `ra` told of the first steps: views[k] is a promise of what stands after k of them.
 let views = [];
 // The view that is shown, the step that is to be shown next, and whether something is being loaded.
@@ -108,24 +109,14 @@ function readTrace(text) {
     const trace = {text, version, nodes: Number(nodes), start, steps: []};
     lines.slice(1).forEach((line, place) => {
         const words = line.split(" ");
-        if (["ask", "release", "deliver", "lose", "repeat"].includes(words[0]))
-            trace.steps.push({line, number: place + 2, words, marks: []});
-        else if (["request", "enter", "leave"].includes(words[0]) && trace.steps.length)
-            trace.steps[trace.steps.length - 1].marks.push(line);
+        const last = trace.steps[trace.steps.length - 1];
+        if (["ask", "release", "cancel", "forget", "deliver", "lose", "repeat"].includes(words[0]))
+            trace.steps.push({line, number: place + 2, words, sends: [], marks: []});
+        else if (words[0] === "send") last?.sends.push(line);
+        else if (["request", "enter", "leave", "withdraw"].includes(words[0])) last?.marks.push(line);
     });
     return trace;
 }
-
-// Reads the message that the line of a step names.
-function messageOf(words) {
-    const [, kind, from, to, name, ...rest] = words;
-    return {kind, from: Number(from), to: Number(to), name, mode: kind === "request" ? rest[0] : null,
-        number: Number(rest[rest.length - 1])};
-}
-
-const isSame = (one, other) => ["kind", "from", "to", "name", "mode", "number"].every((key) => one[key] === other[key]);
-
-const lineOf = ({kind, from, to, name, mode, number}) => [kind, from, to, name, ...(mode ? [mode] : []), number].join(" ");
 
 // ---- The steps of the run
 
@@ -134,7 +125,10 @@ const isChoice = (step) => /^[cml][0-9]+$/.test(step);
 // Returns what stands after the first steps.
 function viewAfter(count) {
     const step = run.steps[count - 1];
-    const find = async () => !count || isChoice(step) ? loadChoices(run.script, run.steps.slice(0, count)) : advance(await viewAfter(count - 1), step);
+    const find = async () => {
+        if (run.rules) return viewByRules(count ? addStep(await viewAfter(count - 1), step) : []);
+        return !count || isChoice(step) ? loadChoices(run.script, run.steps.slice(0, count)) : advance(await viewAfter(count - 1), step);
+    };
     views[count] ??= find().catch((fault) => {
         views[count] = undefined;
         throw fault;
@@ -238,20 +232,66 @@ async function checkUnderWay(view) {
         throw new Error(`the page and ra check differ on the messages under way: ${left} and ${view.under.length}, ${told.out}`);
 }
 
+// ---- Steps by the rules
+
+// Returns the trace of these steps.
+function traceOf(first, made) {
+    const lines = made.flatMap(({line, sends, marks}) => [line, ...(first.endsWith(" sends") ? sends : []), ...marks]);
+    return [first, ...lines, "end", ""].join("\n");
+}
+
+const addStep = ({made, state}, line) => [...made, makeStep(state, line)];
+
+// Returns what stands after steps that were made by the rules.
+function viewByRules(made) {
+    const {first, nodes, names, wishes} = run.rules;
+    const state = made.length ? made[made.length - 1].state : beginningOf(nodes, names);
+    state.clients = wishes.map(({node, client, locks}) => clientByRules(state, node, client, locks));
+    const isLeft = state.waiting.length || state.holding.length || state.messages.length;
+    return {state, isDone: !isLeft, trace: readTrace(traceOf(first, made)), made, under: state.messages};
+}
+
+// Returns what a client waits for and holds, and what it can do: these steps are lines of a trace.
+function clientByRules(state, node, client, locks) {
+    const all = state.cells.filter((cell) => cell.node === node), isOwn = (each) => each.client === client;
+    const waits = all.filter((cell) => cell.phase === "waiting" && isOwn(cell) || cell.queued.some(isOwn));
+    const holds = all.filter((cell) => cell.phase === "inside" && isOwn(cell));
+    const free = locks.filter(({name}) => ![...waits, ...holds].some((cell) => cell.name === name));
+    const lines = [
+        ...waits.map(({name}) => ({does: `cancel ${name}`, line: `cancel ${node} ${client} ${name}`})),
+        ...holds.map(({name}) => ({does: `unlock ${name}`, line: `release ${node} ${client} ${name}`})),
+        ...free.map(({name, mode}) => ({does: `lock ${name} (${mode})`, line: `ask ${node} ${client} ${name} ${mode}`})),
+    ];
+    return {client, node, lines, rest: ["enabled"]};
+}
+
+// Has `ra check` confirm what a view made by the rules has: what was sent and marked, by a trace with sends, and what stands now, by more
+// steps that show it.
+async function confirm(view) {
+    const own = new Set(run.rules.wishes.map(({client}) => client));
+    let newcomer = 4294967295;
+    while (own.has(String(newcomer))) newcomer -= 1;
+    const text = traceOf(`trace 3 ${run.rules.nodes} 0 sends`, [...view.made, ...stepsThatShow(view.state, String(newcomer))]);
+    const told = await ask("/check", {trace: text});
+    if (!told.out.startsWith("valid\n")) throw new Error(`the page and ra check differ on this step: ${told.out}${told.err}`);
+}
+
 // Adds what `ra check` and `ra draw` say of a view.
 async function judge(view) {
     const lines = view.trace.text.split("\n").length - 1;
     view.from = Math.max(1, lines - MOST_DRAWN + 1);
     [view.checked, view.picture] = await Promise.all([checkOf(view), ask("/draw", {trace: view.trace.text, from: String(view.from)}),
-        view.bare.length < view.trace.steps.length ? checkUnderWay(view) : null]);
+        run.rules ? confirm(view) : view.bare.length < view.trace.steps.length ? checkUnderWay(view) : null]);
 }
 
 // Returns the step that a word stands for after a view: a choice or, if the run has copies, the line of a trace. The word `r0` repeats the
 // message at place 0.
 function stepOf(view, word) {
     const number = Number(word.slice(1));
+    if (run.rules && linesByRules(view).includes(word)) return word;
+    if (run.rules && !/^[mlr][0-9]{1,9}$/.test(word)) throw new Error("a step of this trace is a click, or m, l or r and a number, such as m0");
     if (!/^[cmlr][0-9]{1,9}$/.test(word)) throw new Error("a step is c, m, l or r and a number, such as c1 or m0");
-    if (word[0] !== "r" && run.steps.slice(0, run.at).every(isChoice)) return word;
+    if (word[0] !== "r" && !run.rules && run.steps.slice(0, run.at).every(isChoice)) return word;
     if (word[0] !== "c") {
         if (!view.under[number]) throw new Error(`${counted(view.under.length, "message")} are under way, and no place is ${number}`);
         return `${{m: "deliver", l: "lose", r: "repeat"}[word[0]]} ${lineOf(view.under[number])}`;
@@ -262,10 +302,13 @@ function stepOf(view, word) {
     return does === "lock" ? `ask ${client.node} ${number} ${name} ${mode}` : `release ${client.node} ${number} ${name}`;
 }
 
-// ---- What follows from a state
+// Returns the steps of clients and nodes that can be made after a view made by the rules.
+function linesByRules({state, trace}) {
+    const forgets = Array.from({length: trace.nodes}, (_, place) => `forget ${place + 1}`);
+    return [...state.clients.flatMap(({lines}) => lines.map(({line}) => line)), ...forgets];
+}
 
-// Tells whether a request goes before another one.
-const isEarlier = (one, other) => one.number < other.number || (one.number === other.number && one.node < other.node);
+// ---- What follows from a state
 
 // Returns the entries of the lock table that are in the way of one that waits.
 function obstaclesOf(state, entry) {
@@ -332,10 +375,10 @@ function dialogsOf(view, cell) {
 // ---- What the last step did, in words
 
 const inMode = (name, mode) => `${name} (${mode}, ${MODES[mode]})`;
-const ruleOf = (words) => ({ask: "ask", release: "leave", lose: "carry", repeat: "carry"})[words[0]] ?? words[1];
+const ruleOf = (words) => words[0] === "deliver" ? words[1] : ({release: "leave", lose: "carry", repeat: "carry"})[words[0]] ?? words[0];
 
 function explain(step, before, after) {
-    const tellers = {ask: tellAsk, release: tellLeave, request: tellRequest, reply: tellReply};
+    const tellers = {ask: tellAsk, release: tellLeave, cancel: tellCancel, forget: tellForget, request: tellRequest, reply: tellReply};
     if (step.words[0] === "lose") return `${titled(messageOf(step.words))} is lost. No node notices, and nobody sends it again.`;
     if (step.words[0] === "repeat") return `A copy of ${titled(messageOf(step.words))} is under way. No node notices.`;
     return tellers[step.words[0] === "deliver" ? step.words[1] : step.words[0]](step, before, after);
@@ -344,8 +387,6 @@ function explain(step, before, after) {
 function titled({kind, from, to, name, mode, number}) {
     return `${kind.toUpperCase()} ${number} from node ${from} to node ${to} for ${mode ? `${name} (${mode})` : name}`;
 }
-
-const cellAt = (state, node, name) => state.cells.find((cell) => cell.node === node && cell.name === name);
 
 // "a REQUEST goes to node 2", "REQUESTs go to nodes 2 and 3".
 const sentTo = (article, kind, nodes) => nodes.length === 1 ? `${article} ${kind} goes to ${nodesOf(nodes)}` : `${kind}s go to ${nodesOf(nodes)}`;
@@ -368,10 +409,30 @@ function tellAsk({words: [, node, client, name, mode], marks}, before, after) {
     return `${asks} Another client of this node comes first, so it is queued, without a number.`;
 }
 
+// Says which REPLYs a node sends as its request ends.
+function tellOwed(cell) {
+    const owed = cell.defers.map((each) => each.node);
+    return owed.length ? `Now ${sentTo("the", "deferred REPLY", owed)}.` : "No REPLY was deferred.";
+}
+
 function tellLeave({words: [, node, client, name], marks}, before, after) {
-    const owed = cellAt(before, Number(node), name).defers.map((each) => each.node);
-    const replies = owed.length ? `Now ${sentTo("the", "deferred REPLY", owed)}.` : "No REPLY was deferred.";
+    const replies = tellOwed(cellAt(before, Number(node), name));
     return `Client ${client} at node ${node} leaves ${name}. ${replies} ${tellMarks(marks, after.nodes)}`.trim();
+}
+
+function tellCancel({words: [, node, client, name], marks}, before, after) {
+    const old = cellAt(before, Number(node), name), gives = `Client ${client} at node ${node} gives up ${name}.`;
+    if (!marks.length) return `${gives} It was only queued, so no node learns of it.`;
+    const strays = after.nodes > 1 ? ` A REPLY ${old.number} that comes now is a stray.` : "";
+    return `${gives} Its request is withdrawn, and no other node is told.${strays} ${tellOwed(old)} ${tellMarks(marks, after.nodes)}`.trim();
+}
+
+function tellForget({words: [, node]}, before, after) {
+    const cells = after.cells.filter((cell) => cell.node === Number(node));
+    const rises = cells.some(({name, highest}) => highest !== cellAt(before, Number(node), name).highest);
+    const told = `Node ${node} forgets the names that nobody uses there.`;
+    if (!rises) return `${told} All its highest numbers were the same.`;
+    return `${told} All its highest numbers become ${cells[0].highest}, the greatest of them, also that of a name that it has not met.`;
 }
 
 function tellRequest({words, isAgain}, before, after) {
@@ -469,8 +530,10 @@ function showLanes(view, before) {
         const clients = state.clients.filter((client) => client.node === node);
         const messages = under.filter((message) => message.to === node);
         lanes.push(make("section", {className: "lane", data: {node}}, make("h3", {}, `node ${node}`),
-            ...clients.map((client) => clientBox(view, client)), ...cells.map((cell) => cellBox(view, cell, before?.state)),
-            unmet ? make("p", {className: "small"}, `${counted(unmet, "name")} that it has not met`) : null, ...messages.map(messageBox)));
+            ...clients.map((client) => run.rules ? wishesBox(client) : clientBox(view, client)),
+            ...cells.map((cell) => cellBox(view, cell, before?.state)),
+            unmet ? make("p", {className: "small"}, `${counted(unmet, "name")} that it has not met`) : null, ...messages.map(messageBox),
+            run.rules ? make("div", {className: "forgets"}, stepButton(`forget ${node}`, ["forget"], `forget-${node}`)) : null));
     }
     at("lanes").replaceChildren(...lanes);
 }
@@ -509,6 +572,12 @@ function clientBox(view, {client, what, rest}) {
             : make("span", {}, `client ${client} would ${does}, and cannot`));
     }
     return box;
+}
+
+// What a client of a trace of version 3 can do.
+function wishesBox({client, node, lines}) {
+    const buttons = lines.map(({does, line}) => stepButton(line, [`client ${client}: ${does}`], `${does} ${client} ${node}`));
+    return make("div", {className: "client wishes", data: {client}}, ...buttons);
 }
 
 function messageBox(message) {
@@ -571,7 +640,7 @@ function showSteps(trace) {
         const title = isChoice(run.steps[place]) ? `choice ${run.steps[place]}` : "";
         return make("li", place + 1 === run.at ? {"aria-current": "step"} : {},
             make("button", {type: "button", onclick: () => goTo(place + 1), title}, step.line),
-            ...step.marks.map((mark) => make("span", {className: "mark"}, mark)));
+            ...[...step.sends, ...step.marks].map((mark) => make("span", {className: "mark"}, mark)));
     });
     at("steps").replaceChildren(...items);
     items[items.length - 1]?.scrollIntoView({block: "nearest"});
@@ -589,9 +658,11 @@ function showRules(trace) {
 function showChoices(view) {
     const steps = run.steps.slice(0, run.at), copies = steps.findIndex((step) => !isChoice(step));
     at("choices").value = (copies < 0 ? steps : steps.slice(0, copies)).join(" ");
-    at("copies").hidden = at("without").hidden = copies < 0;
+    at("copies").hidden = at("without").hidden = copies < 0 || run.rules !== null;
+    at("chosen").hidden = at("scripted").hidden = run.rules !== null;
+    at("confirmed").hidden = run.rules === null;
     offer("trace", view.trace.text, "text/plain");
-    offer("script", run.script, "text/plain");
+    if (!run.rules) offer("script", run.script, "text/plain");
 }
 
 // Lets a link download a text.
@@ -700,10 +771,10 @@ async function takeStep(word) {
 
 // ---- Opening
 
-// Begins a run: a script, and the steps that are known.
-async function begin(name, script, steps) {
+// Begins a run: a script, and the steps that are known. Of a trace of version 3, `script` is its text, and `rules` what its steps need.
+async function begin(name, script, steps, rules = null) {
     const [old, kept] = [{...run}, views];
-    Object.assign(run, {name, script, steps, at: 0});
+    Object.assign(run, {name, script, rules, steps, at: 0});
     views = [];
     try {
         await viewAfter(0);
@@ -739,15 +810,31 @@ async function openTrace(name, text) {
     const lines = text.split("\n");
     const trace = readTrace((wrong ? lines.slice(0, Number(wrong[1]) - 1) : lines).join("\n"));
     if (trace.start !== "0") throw new Error("the numbers of this trace begin above 0, and those of a script begin with 0");
+    if (trace.steps.length > MOST_OPENED) throw new Error(`the trace has more than ${MOST_OPENED} steps`);
+    const notes = wrong ? [`${told.out.trim()}: the steps before this line are shown.\n${told.err.trim()}`] : [];
+    if (trace.version === "3") {
+        await begin(name, text, trace.steps.map(({line}) => line), rulesOf(lines[0], trace));
+        return tell("opened", notes.join("\n"));
+    }
     const {script, clientOf, renamed} = scriptOf(trace);
     await begin(name, script, await stepsOf(script, trace, clientOf));
-    const notes = wrong ? [`${told.out.trim()}: the steps before this line are shown.\n${told.err.trim()}`] : [];
     tell("opened", [...notes, ...renamed].join("\n"));
+}
+
+// Returns what the steps of a trace of version 3 need: its first line, its nodes and names, and of each client what it asks for.
+function rulesOf(first, {nodes, steps}) {
+    const wishes = [], names = new Set();
+    for (const {words: [, node, client, name, mode]} of steps.filter((step) => step.words[0] === "ask")) {
+        names.add(name);
+        let own = wishes.find((each) => each.node === Number(node) && each.client === client);
+        if (!own) wishes.push(own = {node: Number(node), client, locks: []});
+        if (!own.locks.some((each) => each.name === name)) own.locks.push({name, mode});
+    }
+    return {first, nodes, names: [...names].sort(), wishes};
 }
 
 // Returns the steps of a trace as steps of the run: choices up to the first repeat, and then lines with the clients of the script.
 async function stepsOf(script, trace, clientOf) {
-    if (trace.steps.length > MOST_OPENED) throw new Error(`the trace has more than ${MOST_OPENED} steps`);
     const isOfClient = ({words}) => ["ask", "release"].includes(words[0]);
     const first = trace.steps.findIndex((step) => step.words[0] === "repeat");
     const plain = first < 0 ? trace.steps : trace.steps.slice(0, first);
