@@ -44,7 +44,6 @@ from failing import fail
 from options import parse
 
 DELAY = 0.05  # seconds until a frame is acknowledged
-ASKS = 1000  # asks after which the node forgets the names that nobody uses
 AHEAD = 1 << 20  # bytes of lines that a client can send before they are answered
 SECONDS = re.compile(r"[0-9]{1,7}(\.[0-9]+)?")
 LONGEST = 1_000_000  # seconds that a client can wait within
@@ -241,7 +240,7 @@ class Host:
         self.book.add(line)
         if line.startswith("ask "):
             self.asks += 1
-            if self.asks % ASKS == 0:
+            if self.asks % self.options.forget_after == 0:
                 # If there is no memory for it now, the names go the next time.
                 asyncio.get_running_loop().call_soon(self.step, "forget")
         for words in answer:

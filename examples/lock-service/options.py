@@ -23,6 +23,12 @@ def first_number(text):
     return int(text)
 
 
+def count_of_asks(text):
+    if not text.isdecimal() or not 1 <= int(text) <= 1_000_000:
+        raise argparse.ArgumentTypeError(f"'{text}' is not 1 to 1000000")
+    return int(text)
+
+
 def cluster_name(text):
     if not text or set(text) - LETTERS:
         raise argparse.ArgumentTypeError(f"'{text}' has other characters than letters, digits, _, - and .")
@@ -41,6 +47,8 @@ def parse():
     add("--start", type=first_number, default=0, help="the number with which each name begins; by default 0")
     add("--carrier", choices=["tcp", "mqtt"], default="tcp", help="what carries messages between hosts")
     add("--broker", type=address, default="127.0.0.1:1883", help="the broker of --carrier mqtt; by default 127.0.0.1:1883")
+    add("--forget-after", type=count_of_asks, default=1000,
+        help="after so many asks, the node forgets the names that nobody uses; by default 1000")
     add("--fsync", action="store_true", help="keep the book through a power cut, too, which makes each lock slower")
     add("--ra", default=os.path.join(TOP, "crates", "ra", "out", "ra"), help="the program ra")
     options = parser.parse_args()
