@@ -28,7 +28,10 @@ function is_number(text) {
 }
 
 { sub(/\r$/, "") }
-$5 != "served" { next }
+$5 != "served" {
+    if (/(^|[ \t])served([ \t]|$)/) stop("it is no access in the form of the others")
+    next
+}
 {
     lock = substr($3, 6)
     number = substr($4, 5)
