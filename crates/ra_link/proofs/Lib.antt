@@ -1,0 +1,13 @@
+pub mod Flow
+pub mod Going
+pub mod GoingTurns
+pub mod Keeping
+pub mod PutBack
+pub mod Ready
+pub mod Prefixes
+pub mod Honest
+pub mod NoOld
+pub mod Rounds
+pub mod Progress
+pub mod Finding
+pub mod Lasting

@@ -1,0 +1,4 @@
+pub mod Link
+pub mod Pair
+pub mod Progress
+pub mod PutBack
