@@ -3,8 +3,8 @@
 use crate::core_asserting::{assert_same, judge};
 use crate::growth_in_core::growth_of_bags::{try_many_pushes, try_many_puts};
 use crate::node_tests::node_answers::{fault_of_ask, fault_of_leave};
-use Call::{Ask, Leave, Reply, Request};
-use ra_node::{AskError, LeaveError, Node, Outcome, ReceiveError};
+use Call::{Ask, Cancel, Forget, Leave, Reply, Request};
+use ra_node::{AskError, CancelError, LeaveError, Node, Outcome, ReceiveError};
 use ra_stamp::{Entry, Memory, Message, Name};
 use ra_table::{EnterError, RequestError, Table};
 use std::process::Abort;
@@ -23,6 +23,10 @@ enum Call {
     Request(u64),
     /// This client leaves it.
     Leave(u32),
+    /// This client gives it up.
+    Cancel(u32),
+    /// The node forgets names.
+    Forget,
 }
 
 /// A call, and what the node shows after it.
@@ -97,6 +101,74 @@ const ROWS: &[Row] = &[
     },
 ];
 
+/// Node 2 is deferred and two clients are queued. The last one gives up in the queue. Then the first one gives up, and
+/// the second one asks in its place: a REPLY to the first one is a stray. At last `r` is forgotten.
+const GIVES_UP: &[Row] = &[
+    Row {
+        call: Ask(1),
+        waiting: 1,
+        queued: 0,
+        highest: 1,
+        holder: None,
+    },
+    Row {
+        call: Request(1),
+        waiting: 1,
+        queued: 0,
+        highest: 1,
+        holder: None,
+    },
+    Row {
+        call: Ask(2),
+        waiting: 1,
+        queued: 1,
+        highest: 1,
+        holder: None,
+    },
+    Row {
+        call: Ask(3),
+        waiting: 1,
+        queued: 2,
+        highest: 1,
+        holder: None,
+    },
+    Row {
+        call: Cancel(3),
+        waiting: 1,
+        queued: 1,
+        highest: 1,
+        holder: None,
+    },
+    Row {
+        call: Cancel(1),
+        waiting: 1,
+        queued: 0,
+        highest: 2,
+        holder: None,
+    },
+    Row {
+        call: Reply(1),
+        waiting: 1,
+        queued: 0,
+        highest: 2,
+        holder: None,
+    },
+    Row {
+        call: Cancel(2),
+        waiting: 0,
+        queued: 0,
+        highest: 2,
+        holder: None,
+    },
+    Row {
+        call: Forget,
+        waiting: 0,
+        queued: 0,
+        highest: 2,
+        holder: None,
+    },
+];
+
 /// Has a node take a message. If it does not, memory ran out.
 fn take(
     rt: &(impl Abort + AllocGlobal),
@@ -123,6 +195,14 @@ fn make(
         Leave(client) => {
             let fault = fault_of_leave(rt.alloc(), node, client);
             judge(rt, at, fault, LeaveError::Memory)
+        }
+        Cancel(client) => {
+            let fault = node.cancel(rt.alloc(), client, r()).err();
+            judge(rt, at, fault, CancelError::Memory)
+        }
+        Forget => {
+            node.forget();
+            Ok(())
         }
         Reply(seq) => take(rt, at, node, &reply(2, 1, seq)),
         Request(seq) => take(rt, at, node, &request(2, 1, seq)),
@@ -159,12 +239,12 @@ fn shown_after(row: &Row) -> ((u64, u128), (u64, Option<Entry>)) {
 }
 
 /// Makes all calls, and asserts what the node shows after each.
-fn try_calls(rt: &(impl Abort + AllocGlobal), node: &mut Node) -> Tried {
+fn try_calls(rt: &(impl Abort + AllocGlobal), node: &mut Node, label: &str, rows: &[Row]) -> Tried {
     let mut tried = Tried::NoFailure;
-    for place in 0..ROWS.len() {
-        let at = At("a node", "call", place + 1);
-        tried = both(tried, try_call(rt, at, node, ROWS[place].call));
-        assert_same(rt, at, &shown(node), &shown_after(&ROWS[place]));
+    for place in 0..rows.len() {
+        let at = At(label, "call", place + 1);
+        tried = both(tried, try_call(rt, at, node, rows[place].call));
+        assert_same(rt, at, &shown(node), &shown_after(&rows[place]));
     }
     tried
 }
@@ -179,7 +259,13 @@ fn node_one(rt: &(impl Abort + AllocGlobal), nodes: u16) -> Node {
 
 #[test]
 fn growth_of_a_node(rt: HostRuntime) {
-    assert_grown!(&rt, try_calls(&rt, &mut node_one(&rt, 2)));
+    assert_grown!(&rt, try_calls(&rt, &mut node_one(&rt, 2), "a node", ROWS));
+}
+
+#[test]
+fn growth_of_a_node_whose_clients_give_up(rt: HostRuntime) {
+    let label = "a node whose clients give up";
+    assert_grown!(&rt, try_calls(&rt, &mut node_one(&rt, 2), label, GIVES_UP));
 }
 
 /// How many of the calls above there are before the first leave. At it, node 2 is deferred and client 2 is queued.
@@ -212,6 +298,41 @@ fn try_leaving(rt: &(impl Abort + AllocGlobal), node: &mut Node) -> Result<Tried
 fn growth_of_a_leave_with_room(rt: HostRuntime) {
     let first = try_leaving(&rt, &mut node_one(&rt, 2));
     let second = try_leaving(&rt, &mut node_one(&rt, 2));
+    assert_grown!(&rt, again(first, second));
+}
+
+/// How many of the calls of `GIVES_UP` there are before the first client gives up. At it, node 2 is deferred and client
+/// 2 is queued.
+const BEFORE_GIVING_UP: usize = 5;
+
+/// Makes room for a leave and the calls before a client that waits gives up. That and a forget need no memory then: they
+/// may not be refused, whichever growth is. If the room or a call before it is refused, memory ran out.
+fn try_giving_up(rt: &(impl Abort + AllocGlobal), node: &mut Node) -> Result<Tried, Memory> {
+    let label = "a client gives up with room";
+    let Ok(mut ended) = Outcome::for_leave(rt.alloc(), 2) else {
+        return Err(Memory);
+    };
+    // Nobody waits, and the room stays for the call below.
+    let Err(early) = node.cancel_into(rt.alloc(), 1, r(), &mut ended) else {
+        panic!(rt; "{label}: expected NotWaiting before the first ask, and the client gave up");
+    };
+    assert_same(rt, row(label), &early, &CancelError::NotWaiting);
+    for place in 0..BEFORE_GIVING_UP {
+        make(rt, At(label, "call", place + 1), node, GIVES_UP[place].call)?;
+    }
+    let came = match node.cancel_into(rt.alloc(), 1, r(), &mut ended) {
+        Ok(()) => Ok((ended.sends.len(), ended.marks.len())),
+        Err(fault) => Err(fault),
+    };
+    node.forget();
+    assert_same(rt, row(label), &came, &Ok((2, 2)));
+    Ok(Tried::NoFailure)
+}
+
+#[test]
+fn growth_of_a_cancel_with_room(rt: HostRuntime) {
+    let first = try_giving_up(&rt, &mut node_one(&rt, 2));
+    let second = try_giving_up(&rt, &mut node_one(&rt, 2));
     assert_grown!(&rt, again(first, second));
 }
 
@@ -300,13 +421,27 @@ fn leaves(rt: &impl Abort, label: &str, table: &mut Table, entry: &Entry) {
     assert_same(rt, row(label), &table.leave(entry), &Ok(()));
 }
 
-/// Two writers take turns.
+/// Has a writer ask and give up, which takes no memory.
+fn gives_up(rt: &impl Abort, table: &mut Table) -> Tried {
+    let third = writer(3, 3, 1);
+    let asked = try_entry(rt, row("the third asks"), table, &third, false);
+    assert_same(
+        rt,
+        row("the third gives up"),
+        &table.withdraw(&third),
+        &Ok(()),
+    );
+    asked
+}
+
+/// Two writers take turns. A third one gives up.
 fn try_table_calls(rt: &impl Abort, table: &mut Table) -> Tried {
     let (first, second) = (writer(1, 1, 1), writer(2, 2, 1));
     let asked = both(
         try_entry(rt, row("the first asks"), table, &first, false),
         try_entry(rt, row("the second asks"), table, &second, false),
     );
+    let asked = both(asked, gives_up(rt, table));
     let entered = try_entry(rt, row("the first enters"), table, &first, true);
     leaves(rt, "the first leaves", table, &first);
     let last = try_entry(rt, row("the second enters"), table, &second, true);
