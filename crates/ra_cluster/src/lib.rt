@@ -21,7 +21,7 @@ pub use ra_book::{
 };
 pub use ra_site::{
     CallError, Cluster, Gate, Handed, Held, Inbox, NewPostError, OpenGate, Post, SendError, Site,
-    SiteError, TakeError, given_grants_are_in_books, is_site_of, stop_of,
+    SiteError, TakeError, ended_requests_are_gone, given_grants_are_in_books, is_site_of, stop_of,
 };
 pub use script_plan::meets_plan;
 pub use script_threads::{ScriptRun, run_threads};

@@ -18,7 +18,7 @@ use Rattle.ra_book.specs.declared.book.event.BookKind.{BookKind}
 use Rattle.ra_book.specs.declared.book.grant.Grant.{Grant}
 use Rattle.ra_book.specs.declared.book.sent.Sent.{Sent}
 use Rattle.ra_book.specs.History.{IsHistory, Posting, happening_of, node_event, frames_of}
-use Rattle.ra_book.specs.Book.{BookState, HasHistory, Adds, with_event, next_clock, whole_events, as_sent}
+use Rattle.ra_book.specs.Book.{BookState, HasHistory, LeadsTo, Adds, with_event, next_clock, whole_events, whole_sent, as_sent}
 use Rattle.ra_book.specs.Settled.{HasMark, marks_in}
 use Rattle.ra_book.proofs.NodeMarks.{for_next}
 use Rattle.ra_site.specs.ClientGrant.{Gives, Giver, WasGiven}
@@ -122,24 +122,35 @@ module _ (laws : GivingLaws) (old : BookState) (kind : BookKind) (frames : List 
       })
       adds.leads
 
-  marks_are : marks ≡ last.last.marks
-  marks_are =
+  -- the event, by which the history comes to its node
+  made : NodeEvent adds.before (node_event kind) last.last.sends last.last.marks parts.2.0
+  made =
       let as_event : node_event last.last.event.kind ≡ node_event kind = ap (λ (e : BookEvent). node_event e.kind) last.last_is in
-      let made = subst (λ (e : Event). NodeEvent adds.before e last.last.sends last.last.marks parts.2.0) as_event
-      (subst (λ (n : NodeState). NodeEvent n (node_event last.last.event.kind) last.last.sends last.last.marks parts.2.0) same_node parts.2.1) in
-      (laws.one_event adds.before adds.after parts.2.0 (node_event kind) adds.sends last.last.sends marks last.last.marks adds.event made).1
+      subst (λ (e : Event). NodeEvent adds.before e last.last.sends last.last.marks parts.2.0) as_event
+      (subst (λ (n : NodeState). NodeEvent n (node_event last.last.event.kind) last.last.sends last.last.marks parts.2.0) same_node parts.2.1)
+
+  marks_are : marks ≡ last.last.marks
+  marks_are = (laws.one_event adds.before adds.after parts.2.0 (node_event kind) adds.sends last.last.sends marks last.last.marks adds.event made).1
+
+  pub consistent_before : IsConsistentNode adds.before
+  consistent_before = laws.consistent old.me old.nodes old.start adds.before (map happening_of adds.leads.postings) here.count here.member adds.leads.for_this_node adds.leads.leads
+
+  -- and the node to which the book leads is the one after the event
+  pub made_after : (after : NodeState) → LeadsTo new after → (sends : List Message) × (made : List Mark) × NodeEvent adds.before (node_event kind) sends made after
+  made_after after leads =
+      let same : here.node ≡ after = laws.one_node old.me old.nodes old.start (whole_events book) (whole_sent book) (whole_sent book) here.node after here.leads (subst (λ (b : BookState). LeadsTo b after) adds.new_is leads) in
+      (last.last.sends, last.last.marks, subst (λ (n : NodeState). NodeEvent adds.before (node_event kind) last.last.sends last.last.marks n) (sym parts.2.2 ∙ same) made)
 
   -- the node and the mark of an event are of the same number
   pub is_own : (mark : Mark) → Contains marks mark → (entry_of_mark mark).stamp.node ≡ new.me
   is_own mark is =
       let same = laws.stays opening adds.before (map happening_of adds.leads.postings) adds.leads.leads in
-      let consistent = laws.consistent old.me old.nodes old.start adds.before (map happening_of adds.leads.postings) here.count here.member adds.leads.for_this_node adds.leads.leads in
       let for_last : IsForThisNode opening (node_event last.last.event.kind) =
       All-contains (λ h. IsForThisNode opening h.event) (map happening_of last.before ++ happening_of last.last ∷ []) (happening_of last.last) all_here
       (Contains-push (map happening_of last.before) (happening_of last.last))
       in
       let for_this : IsForThisNode opening (node_event kind) = subst (λ (e : BookEvent). IsForThisNode opening (node_event e.kind)) last.last_is for_last in
-      let made = laws.makes adds.before adds.after (node_event kind) adds.sends marks consistent (for_next opening adds.before (node_event kind) same.0 same.1 for_this) adds.event in
+      let made = laws.makes adds.before adds.after (node_event kind) adds.sends marks consistent_before (for_next opening adds.before (node_event kind) same.0 same.1 for_this) adds.event in
       (All-contains (IsMark adds.before.me (name_of_event (node_event kind))) marks mark made is).node_is ∙ same.0 ∙ sym (ap (λ (b : BookState). b.me) adds.new_is)
 
   pub is_there : (mark : Mark) → Contains marks mark → HasMark new mark

@@ -3,7 +3,8 @@ use Rattle.std.proofs.Common.{◌≡◌, Result, Ok, Err, sym, ◌∙◌}
 use Rattle.std.specs.Prelude.{IsErrOf, IsErrAnd}
 use Rattle.ra_book.specs.declared.error.BookError.{BookError}
 use Rattle.ra_site.specs.declared.site.SiteError.{SiteError}
-use Rattle.ra_site.specs.declared.site.SiteError.TheVariants.{Refused}
+use Rattle.ra_site.specs.declared.site.SiteError.TheVariants.{Refused, Cancelled}
+use Rattle.ra_site.specs.PassedOn.{IsNotCancelled}
 
 one_error : {X : Type 0} (x y : SiteError) → IsErrOf {T = X} (Err x) y → x ≡ y
 one_error x y is = cc
@@ -14,3 +15,10 @@ same_cause e why (Ok v) passed is = absurd passed
 same_cause {X} e why (Err x) passed is =
     let same : Refused e ≡ Refused why = sym passed ∙ one_error {X = X} x (Refused why) is in
     cc
+
+-- nor is it `Cancelled`
+pub not_cancelled : {X : Type 0} (e : BookError) (r : Result X SiteError) → IsErrAnd r (λ x. x ≡ Refused e) → IsNotCancelled r
+not_cancelled e (Ok v) passed is = absurd passed
+not_cancelled {X} e (Err x) passed is =
+    let same : Refused e ≡ Cancelled = sym passed ∙ one_error {X = X} x Cancelled is in
+    absurd cc

@@ -28,7 +28,7 @@ mod site;
 pub use cluster::all_sites::is_site_of;
 pub use cluster::gate::{Gate, OpenGate};
 pub use cluster::{CallError, Cluster, Held};
-pub use laws::given_grants_are_in_books;
+pub use laws::{ended_requests_are_gone, given_grants_are_in_books};
 pub use post::{Inbox, NewPostError, Post, SendError};
 pub use ra_book::{
     Book, BookError, BookEvent, BookKind, Events, Frames, Grant, MarkLostError, NewError, Posted,

@@ -1,6 +1,7 @@
 pub mod closed_book;
 pub mod desk;
 pub mod giving_up;
+pub mod outcome;
 pub mod refused_frames;
 pub mod request;
 pub mod sending;
@@ -9,13 +10,14 @@ pub mod take_error;
 pub mod ticket;
 pub mod time_limit;
 
-ghost use Rattle.std.specs.Prelude.{◌≡◌, ◌≤◌, true, false, [], All, IfOk, OnErr};
+ghost use Rattle.std.specs.Prelude.{◌≡◌, ◌≤◌, true, false, [], All, IfOk, IsErrOf, OnErr, OnOk};
 ghost use Rattle.ra_stamp.specs.NodeId.{IsNodeNumber};
 ghost use Rattle.ra_frame.specs.Fits.{Fits};
 
 use crate::cluster::all_sites::stop_all;
 use crate::site::closed_book::{is_whole_of, stopped_book};
 use crate::site::desk::{Desk, Handed, Stepped};
+use crate::site::outcome::NotGranted;
 use crate::site::request::Request;
 use crate::site::sending::Sending;
 use crate::site::stop_causes::stop_of;
@@ -104,6 +106,8 @@ impl Site {
     ghost use Rattle.ra_automaton.specs.Members.{ChecksMember};
     ghost use Rattle.ra_book.specs.Book.{HasHistory};
     ghost use Rattle.ra_site.specs.ClientGrant.{IsGrantOf, WasGiven};
+    ghost use Rattle.ra_site.specs.Recorded.{WasGivenUp, WasGivenBack, HasForgotten};
+    ghost use Rattle.ra_site.specs.PassedOn.{IsNotCancelled, PassesOn};
     ghost use Rattle.ra_site.specs.Handing.{IsHandedOver, OnlyTurnOrMemory};
     ghost use Rattle.ra_site.specs.Sites.{AreSitesWith, IsWholeBookOf, site_at};
 
@@ -173,6 +177,7 @@ impl Site {
         requires { AreSitesWith self.now sites.now }
         ensures grant { IfOk result (IsGrantOf self.now.node client name mode) }
         ensures given { IfOk result WasGiven }
+        ensures cancelled { IsErrOf result SiteError.Cancelled → WasGivenUp self.now.node client name }
     {
         let request = Request { client, name, mode };
         let ticket = self.ask(rt, alloc, &request, post, sites, gate)?;
@@ -196,6 +201,8 @@ impl Site {
         gate: &G,
     ) -> Result<(), SiteError>
         requires { AreSitesWith self.now sites.now }
+        ensures recorded { OnOk result (HasForgotten self.now.node) }
+        ensures others { IsNotCancelled result }
     {
         let forgot = self.desk.lock(rt).forget(alloc, self.node, gate);
         match forgot {
@@ -225,6 +232,8 @@ impl Site {
         gate: &G,
     ) -> Result<(), SiteError>
         requires { AreSitesWith self.now sites.now }
+        ensures recorded { OnOk result (WasGivenBack self.now.node client name) }
+        ensures others { IsNotCancelled result }
     {
         let made = {
             let _share = self.sending.share(rt);
@@ -283,7 +292,7 @@ impl Site {
     pub fn stop<R: Wait>(&self, rt: &R, stop: Stop) {
         let (cause, waiters) = self.desk.lock(rt).fail(self.alloc, stop);
         for waiter in &waiters {
-            waiter.ticket.tell(rt, Err(SiteError::Stopped(cause)));
+            waiter.ticket.tell(rt, Err(NotGranted::Stopped(cause)));
         }
     }
 
@@ -411,6 +420,7 @@ impl Site {
         gate: &G,
     ) -> Result<SharedTicket, SiteError>
         requires { AreSitesWith self.now sites.now }
+        ensures { IsNotCancelled result }
     {
         let ticket = Ticket::new(alloc);
         let made = {
@@ -462,7 +472,9 @@ impl Site {
         alloc: Global,
         made: Result<Stepped, SiteError>,
         post: &Post,
-    ) -> Result<bool, SiteError> {
+    ) -> Result<bool, SiteError>
+        ensures { PassesOn made result }
+    {
         let stepped = made?;
         Ok(self.tell_and_send(rt, alloc, &stepped, post))
     }
@@ -479,8 +491,8 @@ impl Site {
         if let Some((ticket, grant)) = &stepped.told {
             ticket.tell(rt, Ok(*grant));
         }
-        if let Some(ticket) = &stepped.given_up {
-            ticket.tell(rt, Err(SiteError::Cancelled));
+        if let Some((ticket, given_up)) = &stepped.given_up {
+            ticket.tell(rt, Err(NotGranted::GivenUp(*given_up)));
         }
         self.send(rt, alloc, stepped.frames.as_slice(), post)
     }
@@ -497,7 +509,9 @@ impl Site {
         rt: &R,
         made: Result<bool, SiteError>,
         sites: &[Site],
-    ) -> Result<(), SiteError> {
+    ) -> Result<(), SiteError>
+        ensures { PassesOn made result }
+    {
         match made {
             Ok(true) => Ok(()),
             Ok(false) => {
@@ -509,7 +523,9 @@ impl Site {
     }
 
     /// Returns what a call answers that was not made. If the gate stopped it, each site is stopped first.
-    fn refusal<R: Wait>(&self, rt: &R, refused: SiteError, sites: &[Site]) -> SiteError {
+    fn refusal<R: Wait>(&self, rt: &R, refused: SiteError, sites: &[Site]) -> SiteError
+        ensures { result ≡ SiteError.Cancelled → refused ≡ SiteError.Cancelled }
+    {
         let SiteError::Stopped(stop) = refused else {
             return refused;
         };

@@ -1,5 +1,6 @@
 //! What is under the lock of a site: the book, and the clients that wait.
-ghost use Rattle.std.specs.Prelude.{◌≡◌, ◌≢◌, ◌↔◌, ◌⊎◌, ◌<◌, false, [], List, All, Contains, IfOk, IfSome, IsErrOf, OnErr, OnOk, vec_len, vec_capacity};
+ghost use Rattle.std.specs.Prelude.{◌≡◌, ◌≢◌, ◌↔◌, ◌⊎◌, ◌<◌, false, [], List, All, Contains, IsNone};
+ghost use Rattle.std.specs.Prelude.{IfOk, IfSome, IsErrOf, OnErr, OnOk, vec_len, vec_capacity};
 ghost use Rattle.std.specs.Option.{ForSome};
 ghost use Rattle.ra_frame.specs.Fits.{Fits};
 ghost use Rattle.ra_book.specs.History.{clock_of};
@@ -11,9 +12,12 @@ ghost use Rattle.ra_book.specs.declared.book.grant.Grant as granted;
 ghost use Rattle.ra_stamp.specs.declared.entry.Mark as mark;
 ghost use Rattle.ra_site.specs.declared.site.SiteError as site;
 ghost use Rattle.ra_site.specs.ClientGrant.{Gives, WasGiven};
+ghost use Rattle.ra_site.specs.Recorded.{WasGivenUp, WasGivenBack, HasForgotten};
+ghost use Rattle.ra_site.specs.PassedOn.{IsNotCancelled};
 ghost use Rattle.ra_site.specs.Handing.{IsAllLeft, OnlyTurnOrMemory};
 ghost use Rattle.ra_site.specs.Losses.{lost_frames};
 
+use crate::site::outcome::GivenUp;
 use crate::site::refused_frames::lost_of;
 use crate::site::request::Request;
 use crate::site::ticket::SharedTicket;
@@ -45,7 +49,7 @@ pub struct Stepped {
     /// The client to tell of a grant.
     pub told: Option<(SharedTicket, Grant)>,
     /// The client to tell that it gave up.
-    pub given_up: Option<SharedTicket>,
+    pub given_up: Option<(SharedTicket, GivenUp)>,
     ghost fit: { All Fits frames.items },
     ghost given: { ForSome told (λ t. WasGiven t.1) },
 }
@@ -86,6 +90,21 @@ impl Desk {
         }
     }
 
+    /// Asks the gate of this node for a step. Returns why none is made, or `None` if it is.
+    fn halt<G: Gate>(&self, node: NodeId, gate: &G) -> Option<Stop>
+        ensures { IsNone result → self.now.book.me ≡ node }
+    {
+        if !gate.step(node) {
+            return Some(Stop::Gate);
+        }
+        // The book is always that of this node, but no contract tells what is under a lock.
+        if self.book.me() == node {
+            None
+        } else {
+            Some(Stop::Refused)
+        }
+    }
+
     /// Asks the gate of this node, and then a client asks for a name. Its thread is told by this ticket when the client
     /// is let in, at once or later, or when the node is stopped.
     ///
@@ -111,9 +130,10 @@ impl Desk {
         ensures err { OnErr result (self.new.book ≡ self.old.book) }
         ensures refused { (why : BookError) → IsErrOf result (site.SiteError.Refused why)
             → RefusesAsk self.old.book request.now.client request.now.name request.now.mode why }
+        ensures others { IsNotCancelled result }
     {
-        if !gate.step(node) {
-            return Err(SiteError::Stopped(Stop::Gate));
+        if let Some(stop) = self.halt(node, gate) {
+            return Err(SiteError::Stopped(stop));
         }
         let Some(waiter) = self.waiter(request, ticket) else {
             // Each other cause comes before `Memory`.
@@ -167,11 +187,13 @@ impl Desk {
         ensures given { IfOk result
             (λ stepped. IfSome stepped.told (λ told. Gives self.old.book self.new.book told.1)) }
         ensures err { OnErr result (self.new.book ≡ self.old.book) }
+        ensures recorded { OnOk result (WasGivenBack node client name) }
         ensures refused { (why : BookError) → IsErrOf result (site.SiteError.Refused why)
             → RefusesLeave self.old.book client name why }
+        ensures others { IsNotCancelled result }
     {
-        if !gate.step(node) {
-            return Err(SiteError::Stopped(Stop::Gate));
+        if let Some(stop) = self.halt(node, gate) {
+            return Err(SiteError::Stopped(stop));
         }
         let posted = self.book.leave(alloc, client, name)?;
         Ok(self.stepped(posted, None))
@@ -200,14 +222,16 @@ impl Desk {
         ensures given { IfOk result
             (λ stepped. IfSome stepped.told (λ told. Gives self.old.book self.new.book told.1)) }
         ensures err { OnErr result (self.new.book ≡ self.old.book) }
+        ensures recorded { OnOk result (WasGivenUp node client name) }
         ensures refused { (why : BookError) → IsErrOf result (site.SiteError.Refused why)
             → RefusesCancel self.old.book client name why }
+        ensures others { IsNotCancelled result }
     {
-        if !gate.step(node) {
-            return Err(SiteError::Stopped(Stop::Gate));
+        if let Some(stop) = self.halt(node, gate) {
+            return Err(SiteError::Stopped(stop));
         }
         let posted = self.book.cancel(alloc, client, name)?;
-        let given_up = self.take(client, &name);
+        let given_up = self.take_given_up(node, client, name);
         Ok(self.stepped(posted, given_up))
     }
 
@@ -234,7 +258,9 @@ impl Desk {
             self.new.book) }
         ensures given { IfOk result
             (λ stepped. IfSome stepped.told (λ told. Gives self.old.book self.new.book told.1)) }
+        ensures recorded { OnOk result (WasGivenUp node request.now.client request.now.name) }
         ensures err { OnErr result (self.new.book ≡ self.old.book) }
+        ensures others { IsNotCancelled result }
     {
         if ticket.is_taken() {
             return Err(SiteError::Refused(BookError::NotWaiting));
@@ -256,10 +282,12 @@ impl Desk {
         node: NodeId,
         gate: &G,
     ) -> Result<(), SiteError>
-        ensures { OnOk result (Adds self.old.book Forget [] [] self.new.book) }
+        ensures made { OnOk result (Adds self.old.book Forget [] [] self.new.book) }
+        ensures recorded { OnOk result (HasForgotten node) }
+        ensures others { IsNotCancelled result }
     {
-        if !gate.step(node) {
-            return Err(SiteError::Stopped(Stop::Gate));
+        if let Some(stop) = self.halt(node, gate) {
+            return Err(SiteError::Stopped(stop));
         }
         self.book.forget(alloc)?;
         Ok(())
@@ -283,8 +311,8 @@ impl Desk {
         ensures given { IfOk result
             (λ stepped. IfSome stepped.told (λ told. Gives self.old.book self.new.book told.1)) }
     {
-        if !gate.step(node) {
-            return Err(SiteError::Stopped(Stop::Gate));
+        if let Some(stop) = self.halt(node, gate) {
+            return Err(SiteError::Stopped(stop));
         }
         let posted = self.book.receive(alloc, bytes)?;
         Ok(self.stepped(posted, None))
@@ -389,7 +417,7 @@ impl Desk {
 
     /// Returns what the last event of the book made, with the client that gave up in it. The client that it let in
     /// waits no more.
-    fn stepped(&mut self, posted: Posted, given_up: Option<SharedTicket>) -> Stepped
+    fn stepped(&mut self, posted: Posted, given_up: Option<(SharedTicket, GivenUp)>) -> Stepped
         requires fit { All Fits posted.frames.items }
         requires given { (grant : granted.Grant) → Contains posted.marks.items (mark.Mark.Entered grant.entry)
             → WasGiven grant }
@@ -416,6 +444,20 @@ impl Desk {
     {
         let ticket = self.take(entry.client, &entry.name)?;
         Some((ticket, Grant { entry }))
+    }
+
+    /// Takes a client of this node that gave up a name out of those that wait, if it is among them.
+    fn take_given_up(
+        &mut self,
+        node: NodeId,
+        client: u32,
+        name: Name,
+    ) -> Option<(SharedTicket, GivenUp)>
+        requires { WasGivenUp node client name }
+        ensures book { self.new.book ≡ self.old.book }
+    {
+        let ticket = self.take(client, &name)?;
+        Some((ticket, GivenUp { node, client, name }))
     }
 
     /// Takes a client that waits for a name out of those that wait, if it is among them. Returns its ticket.

@@ -1,6 +1,8 @@
 //! How a client gives up a name for which it waits: by a call, or when its time is over.
-ghost use Rattle.std.specs.Prelude.{IfOk, IfSome};
+ghost use Rattle.std.specs.Prelude.{IfNone, IfOk, IfSome, IsErrOf, OnOk};
 ghost use Rattle.ra_site.specs.ClientGrant.{IsGrantOf, WasGiven};
+ghost use Rattle.ra_site.specs.PassedOn.{IsNotCancelled};
+ghost use Rattle.ra_site.specs.Recorded.{WasGivenUp};
 ghost use Rattle.ra_site.specs.Sites.{AreSitesWith};
 
 use crate::cluster::all_sites::stop_all;
@@ -37,6 +39,8 @@ impl Site {
         requires { AreSitesWith self.now sites.now }
         ensures grant { IfOk result (λ held. IfSome held (IsGrantOf self.now.node client name mode)) }
         ensures given { IfOk result (λ held. IfSome held WasGiven) }
+        ensures given_up { IfOk result (λ held. IfNone held (WasGivenUp self.now.node client name)) }
+        ensures cancelled { IsErrOf result SiteError.Cancelled → WasGivenUp self.now.node client name }
     {
         let limit = TimeLimit::new(rt, time);
         let request = Request { client, name, mode };
@@ -68,6 +72,10 @@ impl Site {
         ensures grant { IfOk result (λ held.
             IfSome held (IsGrantOf self.now.node request.now.client request.now.name request.now.mode)) }
         ensures given { IfOk result (λ held. IfSome held WasGiven) }
+        ensures given_up { IfOk result (λ held.
+            IfNone held (WasGivenUp self.now.node request.now.client request.now.name)) }
+        ensures cancelled { IsErrOf result SiteError.Cancelled
+            → WasGivenUp self.now.node request.now.client request.now.name }
     {
         let made = {
             let _share = self.sending.share(rt);
@@ -114,6 +122,8 @@ impl Site {
         gate: &G,
     ) -> Result<(), SiteError>
         requires { AreSitesWith self.now sites.now }
+        ensures recorded { OnOk result (WasGivenUp self.now.node client name) }
+        ensures others { IsNotCancelled result }
     {
         let made = {
             let _share = self.sending.share(rt);

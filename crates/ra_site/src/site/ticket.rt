@@ -1,8 +1,10 @@
 //! Where a thread waits for the outcome of its request.
-ghost use Rattle.std.specs.Prelude.{IfOk, IfSome};
+ghost use Rattle.std.specs.Prelude.{IfOk, IfSome, IsErrOf};
 ghost use Rattle.std.specs.Result.{ForOk};
 ghost use Rattle.ra_site.specs.ClientGrant.{IsGrantOf, WasGiven};
+ghost use Rattle.ra_site.specs.Recorded.{WasGivenUp};
 
+use crate::site::outcome::{NotGranted, Outcome};
 use crate::site::request::Request;
 use crate::site::time_limit::TimeLimit;
 use crate::{Grant, SiteError};
@@ -15,14 +17,6 @@ use std::time::Clock;
 
 /// A ticket that two threads share: the one that waits, and the one that tells it the outcome of its request.
 pub type SharedTicket = Arc<Ticket, Global>;
-
-/// The outcome of a request: its grant, or why it was not granted. Its node was stopped before, or its client gave it
-/// up.
-#[derive(Drop)]
-struct Outcome {
-    answer: Result<Grant, SiteError>,
-    ghost given: { ForOk answer WasGiven },
-}
 
 /// Where the one thread that made a request waits. The thread that tells it the outcome of the request wakes it alone.
 #[derive(Drop)]
@@ -56,7 +50,7 @@ impl Ticket {
     }
 
     /// Tells the thread that waits the outcome of its request: its grant, or why there is none. Wakes it.
-    pub fn tell<R: Wait>(&self, rt: &R, answer: Result<Grant, SiteError>)
+    pub fn tell<R: Wait>(&self, rt: &R, answer: Result<Grant, NotGranted>)
         requires { ForOk answer WasGiven }
     {
         *self.outcome.lock(rt) = Some(Outcome { answer });
@@ -68,6 +62,8 @@ impl Ticket {
     pub fn wait<R: Wait>(&self, rt: &R, node: NodeId, request: &Request) -> Result<Grant, SiteError>
         ensures grant { IfOk result (IsGrantOf node request.now.client request.now.name request.now.mode) }
         ensures given { IfOk result WasGiven }
+        ensures cancelled { IsErrOf result SiteError.Cancelled
+            → WasGivenUp node request.now.client request.now.name }
     {
         for _ in rt.forever() {
             match self.told(rt, node, request) {
@@ -90,6 +86,8 @@ impl Ticket {
         ensures grant { IfSome result (λ answer.
             IfOk answer (IsGrantOf node request.now.client request.now.name request.now.mode)) }
         ensures given { IfSome result (λ answer. IfOk answer WasGiven) }
+        ensures cancelled { IfSome result (λ answer. IsErrOf answer SiteError.Cancelled
+            → WasGivenUp node request.now.client request.now.name) }
     {
         for _ in rt.forever() {
             let answer = self.told(rt, node, request);
@@ -114,15 +112,21 @@ impl Ticket {
         ensures grant { IfSome result (λ answer.
             IfOk answer (IsGrantOf node request.now.client request.now.name request.now.mode)) }
         ensures given { IfSome result (λ answer. IfOk answer WasGiven) }
+        ensures cancelled { IfSome result (λ answer. IsErrOf answer SiteError.Cancelled
+            → WasGivenUp node request.now.client request.now.name) }
     {
         // The lock is given back at once, so that nobody waits for it while this thread sleeps.
         let outcome = self.outcome.lock(rt).take();
-        match outcome {
-            // It is always the request's, but no contract can say what another thread told.
-            Some(Outcome { answer: Ok(grant) }) if request.is_granted_by(node, &grant) => Some(Ok(
-                grant,
-            )),
-            Some(Outcome { answer: Err(why) }) => Some(Err(why)),
+        let Some(Outcome { answer }) = outcome else {
+            return None;
+        };
+        // It is always the request's, but no contract can say what another thread told.
+        match answer {
+            Ok(grant) if request.is_granted_by(node, &grant) => Some(Ok(grant)),
+            Err(NotGranted::GivenUp(given_up)) if request.is_given_up_by(node, &given_up) => Some(
+                Err(SiteError::Cancelled),
+            ),
+            Err(NotGranted::Stopped(stop)) => Some(Err(SiteError::Stopped(stop))),
             _ => None,
         }
     }

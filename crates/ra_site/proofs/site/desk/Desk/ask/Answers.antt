@@ -6,7 +6,7 @@ use Rattle.ra_site.proofs.GivenGrants.{given, told_is_given}
 use Rattle.ra_site.proofs.LostFrames.{still_none}
 use Rattle.ra_book.specs.Keeping.{RefusesAsk}
 use Rattle.ra_book.specs.declared.error.BookError.{BookError}
-use Rattle.ra_site.proofs.Refusing.{same_cause}
+use Rattle.ra_site.proofs.Refusing.{same_cause, not_cancelled}
 use Rattle.ra_site.proofs.site.desk.Desk.ask.Goals as goal
 
 pub invariant_of-self-2 : goal.invariant_of-self-2
@@ -34,9 +34,13 @@ returns g c =
       );
       err = tt;
       refused = λ why is. absurd cc;
+      others = λ is. absurd cc;
       given = told_is_given c.waiter.new.self.book _ c.in_ok-posted.posted.frames.items c.in_ok-posted.posted.marks.items c.ask.new.self c.in_ok-posted.ensures.ok
           _ _ _ (sym c.waiter.ensures.book) c.stepped.ensures.book c.stepped.ensures.entered;
     }
+
+pub returns-in_err-posted-clause-others : goal.returns-in_err-posted-clause-others
+returns-in_err-posted-clause-others g c = not_cancelled c.in_err-posted.field-0.0 c.from_residual.result c.from_residual.ensures.1
 
 pub returns-in_err-posted-clause-refused : goal.returns-in_err-posted-clause-refused
 returns-in_err-posted-clause-refused g c = λ why is.
