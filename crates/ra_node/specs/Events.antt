@@ -43,8 +43,8 @@ pub record ReceiveEvent (old : NodeState) (message : Message) (sends : List Mess
   pub after_other : (IsStrayAt (resource_at old (name_of message)) message → ⊥)
       → new ≡ with_resource old (name_of message) resource
 
--- The node forgets names. Its start and its highest numbers rise to the common number, but for those at 2^64-1. It keeps each name
--- on which a request waits or is granted, a client is queued, or no number is left, and no other.
+-- The node forgets names. Its start and its highest numbers rise to the common number, but for those at 2^64-1. It
+-- keeps each name on which a request waits or is granted, a client is queued, or no number is left, and no other.
 pub record ForgetEvent (old : NodeState) (sends : List Message) (marks : List Mark) (new : NodeState) : Type 0 where
   pub number : ℕ
   pub common : IsCommonNumber old number
@@ -89,7 +89,8 @@ NodeEvent old (Cancel client name) sends marks new = CancelEvent old client name
 NodeEvent old (Receive message) sends marks new = ReceiveEvent old message sends marks new
 NodeEvent old Forget sends marks new = ForgetEvent old sends marks new
 
--- an event of this node: a client of its own asks, leaves or cancels, a message for it comes from another node, or it forgets
+-- an event of this node: a client of its own asks, leaves or cancels, a message for it comes from another node, or it
+-- forgets
 abbrev pub IsForThisNode : NodeState → Event → Type 0
 IsForThisNode n (Ask client name mode) = Unit {0}
 IsForThisNode n (Leave client name) = Unit {0}

@@ -8,8 +8,8 @@ use Rattle.ra_node.specs.declared.queued_client.Queued.{Queued}
 use Rattle.ra_node.specs.Resource.{Resource}
 use Rattle.ra_node.specs.Turns.{request_marks, next_entry}
 
--- the automaton ends its request in this way, and requests for the first client of the queue, which is then the current one;
--- its marks come after those before
+-- the automaton ends its request in this way, and requests for the first client of the queue, which is then the current
+-- one; its marks come after those before
 pub record IsHandedOver (Ends : List Message → State → Type 0) (old : Resource) (next : Queued) (sends : List Message)
     (before marks : List Mark) (new : Resource) : Type 0 where
   pub entered : Bool

@@ -15,4 +15,5 @@ TakesOut old client false new = (Any (λ q. q.client ≡ client) old → ⊥) ×
 
 -- the known clients are those that are queued
 abbrev pub AreClients : List ℕ → List Queued → Type 0
-AreClients known queue = (client : ℕ) → list_any (nat_eq client) known ≡ list_any (λ queued. nat_eq client queued.client) queue
+AreClients known queue =
+    (client : ℕ) → list_any (nat_eq client) known ≡ list_any (λ queued. nat_eq client queued.client) queue

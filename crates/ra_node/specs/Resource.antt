@@ -22,7 +22,8 @@ unmet me nodes name start = record { state = opening me nodes name start; client
 
 -- a client's request at a node, with its number
 abbrev pub entry_of : ℕ → List ℕ → ℕ → ℕ → Mode → Entry
-entry_of me name seq client mode = record { name = name; stamp = record { seq = seq; node = me }; client = client; mode = mode }
+entry_of me name seq client mode =
+    record { name = name; stamp = record { seq = seq; node = me }; client = client; mode = mode }
 
 -- what the node's clients make of a resource: nothing, or one request, which waits or is granted
 pub data Use : Type 0 where

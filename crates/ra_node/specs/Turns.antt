@@ -100,13 +100,15 @@ pub record EndsToNext (Ends : Entry → List Message → Resource → Type 0) (m
 -- the request ends; if another client is queued and a number is left, the first of the queue asks in the same event
 abbrev pub EndTurn : (Entry → List Message → Resource → Type 0) → (Entry → Mark) → Resource → List Message → List Mark
     → Resource → Type 0
-EndTurn Ends mark old sends marks new = EndsToNobody Ends mark old sends marks new ⊎ EndsToNext Ends mark old sends marks new
+EndTurn Ends mark old sends marks new =
+    EndsToNobody Ends mark old sends marks new ⊎ EndsToNext Ends mark old sends marks new
 
 -- the client that holds leaves
 abbrev pub LeaveTurn : Resource → ℕ → List Message → List Mark → Resource → Type 0
 LeaveTurn old client sends marks new = EndTurn (Leaves old client) Left old sends marks new
 
--- a client that is queued, and does not wait, leaves the queue, in which the others keep their order; nothing is sent or marked
+-- a client that is queued, and does not wait, leaves the queue, in which the others keep their order; nothing is sent
+-- or marked
 pub record LeavesQueue (old : Resource) (client : ℕ) (sends : List Message) (marks : List Mark)
     (new : Resource) : Type 0 where
   pub before : List Queued

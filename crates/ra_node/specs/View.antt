@@ -57,12 +57,14 @@ is_nothing (q ∷ qs) = false
 
 -- whether nothing but its highest number need be kept of the resource
 abbrev pub is_forgettable : Resource → Bool
-is_forgettable r = is_idle r.state.phase && (is_nobody r.client && (is_nothing r.queue && nat_lt r.state.highest greatest_number))
+is_forgettable r =
+    is_idle r.state.phase && (is_nobody r.client && (is_nothing r.queue && nat_lt r.state.highest greatest_number))
 
 -- the slots of the names that are kept
 abbrev pub forgotten : ℕ → List (List ℕ × Resource) → List (List ℕ × Resource)
 forgotten number [] = []
-forgotten number (e ∷ es) = cond (is_forgettable e.1) (forgotten number es) ((e.0, raised number e.1) ∷ forgotten number es)
+forgotten number (e ∷ es) =
+    cond (is_forgettable e.1) (forgotten number es) ((e.0, raised number e.1) ∷ forgotten number es)
 
 -- what holds of the fields: the node is consistent, and the totals are the sums over all names
 pub record IsKept (n : Inside) : Type 0 where

@@ -375,8 +375,8 @@ impl Slot {
         requires nothing { IsNothing outcome.old }
         requires marks { 3 ≤ outcome.old.marks.spare }
         ensures passed { MatchResult (answer_with result outcome.new)
-            (λ done. IsHandedOver (WithdrawStep self.old.state) self.old next done.sends.items (Withdrawn waiting.now ∷ [])
-            done.marks.items self.new
+            (λ done. IsHandedOver (WithdrawStep self.old.state) self.old next done.sends.items
+            (Withdrawn waiting.now ∷ []) done.marks.items self.new
             × IsConsistent self.new.state)
             (λ fault. (fault ≡ CancelError.Memory) × (self.new ≡ self.old)) }
         ensures room { 2 * self.old.state.nodes ≤ sends.spare → IsOk result }
