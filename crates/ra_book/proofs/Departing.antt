@@ -1,17 +1,12 @@
 -- What is kept for leaves, after each event.
 use Rattle.std.proofs.Common.{◌≡◌, ℕ, ◌+◌, ◌*◌, ◌≤◌, List, [], ◌∷◌, ◌++◌, length, All, Some, refl, ap, ◌∙◌, subst, sym, arith, suc-mul}
-use Rattle.std.specs.Prelude.{Result, Ok, Err, IfOk, IsErrOf, IsErrAnd, IsOkUnless}
+use Rattle.std.specs.Prelude.{Result, Ok, Err, IfOk, IsErrOf, IsErrAnd}
 use Rattle.std.proofs.lemmas.List.{append-nil, length-append}
 use Rattle.std.proofs.lemmas.List.Elements.{All-nil, All-push, All-pop}
 use Rattle.ra_stamp.specs.Sequence.{Listed}
 use Rattle.ra_frame.specs.declared.frame.Frame.{Frame}
-use Rattle.ra_node.specs.declared.error.CancelError.{CancelError}
-use Rattle.ra_node.specs.declared.error.CancelError.TheVariants as cancel
-use Rattle.ra_node.specs.declared.error.LeaveError.{LeaveError}
-use Rattle.ra_node.specs.declared.error.LeaveError.TheVariants.{NotHeld, Memory}
 use Rattle.ra_node.specs.declared.outcome.Outcome.{Outcome}
 use Rattle.ra_node.specs.Node.{NodeState, clients_count}
-use Rattle.ra_node.specs.Room.{answer_with}
 use Rattle.ra_book.specs.declared.book.departure.Departure.{Departure}
 use Rattle.ra_book.specs.declared.error.BookError.{BookError}
 use Rattle.ra_book.specs.declared.error.BookError.TheVariants as book_error
@@ -75,26 +70,6 @@ module _ (nodes : ℕ) (old new : NodeState) (spare spare' len len' capacity cap
 -- what is taken out of the list is a departure
 pub taken_out : (nodes : ℕ) (departures departures' : List Departure) (departure : Departure) → departures ≡ departures' ++ departure ∷ [] → All (IsDeparture nodes) departures → IsDeparture nodes departure
 taken_out nodes departures departures' departure is each = (All-pop (IsDeparture nodes) departures departures' (Some departure) is each).1
-
--- a leave that does not want memory, of a client that holds, is not refused
-pub is_not_refused : {X : Type 0} (result : Result X LeaveError) (outcome : Outcome) (fault : LeaveError) → result ≡ Err fault → IsOkUnless (answer_with result outcome) Memory → (IsErrOf result Memory → ⊥) → ⊥
-is_not_refused (Ok x) outcome fault is allowed room = absurd cc
-is_not_refused {X} (Err e) outcome fault is allowed room = room (subst (λ (f : LeaveError). IsErrOf {T = X} (Err f) Memory) (sym allowed) refl)
-
--- and one that is refused is refused for want of a lock
-pub is_not_held : {X : Type 0} (result : Result X LeaveError) (fault : LeaveError) → result ≡ Err fault → (IsErrOf result Memory → ⊥) → IsErrOf result NotHeld
-is_not_held result NotHeld is room = is
-is_not_held result Memory is room = absurd (room is)
-
--- a cancel that does not want memory, of a client that waits or is queued, is not refused
-pub cancel_not_refused : {X : Type 0} (result : Result X CancelError) (outcome : Outcome) (fault : CancelError) → result ≡ Err fault → IsOkUnless (answer_with result outcome) cancel.Memory → (IsErrOf result cancel.Memory → ⊥) → ⊥
-cancel_not_refused (Ok x) outcome fault is allowed room = absurd cc
-cancel_not_refused {X} (Err e) outcome fault is allowed room = room (subst (λ (f : CancelError). IsErrOf {T = X} (Err f) cancel.Memory) (sym allowed) refl)
-
--- and one that is refused is refused since there is nothing to give up
-pub is_not_waiting : {X : Type 0} (result : Result X CancelError) (fault : CancelError) → result ≡ Err fault → (IsErrOf result cancel.Memory → ⊥) → IsErrOf result cancel.NotWaiting
-is_not_waiting result cancel.NotWaiting is room = is
-is_not_waiting result cancel.Memory is room = absurd (room is)
 
 -- a departure that was taken out, and is unchanged, is put back
 pub put_back : (departures left departures' : List Departure) (departure : Departure) (outcome : Outcome) → departures ≡ left ++ departure ∷ []

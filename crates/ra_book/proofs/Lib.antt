@@ -2,6 +2,7 @@ pub mod Clocks
 mod Histories
 mod Kept
 mod Running
+mod Endings
 mod Adding
 mod Accepting
 mod EventChecked

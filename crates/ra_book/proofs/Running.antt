@@ -2,24 +2,23 @@
 use Rattle.std.proofs.Common.{◌≡◌, ◌≢◌, ◌↔◌, ℕ, ◌^◌, ◌<◌, ◌≤◌, false, true, Option, Some, None, List, [], Result, Ok, Err, refl, sym, ap, ◌∙◌, subst, inl, inr, arith}
 use Rattle.std.specs.Prelude.{IfErr, IfOk, IfSome, OnErr, IsErrAnd, IsErrOf, IsOkUnless, IsSome, is_some, MatchResult}
 use Rattle.std.specs.Result.{result_ok}
-use Rattle.ra_stamp.specs.declared.entry.Entry.{Entry}
 use Rattle.ra_stamp.specs.declared.mode.Mode.{Mode}
 use Rattle.ra_automaton.specs.Steps.{greatest_number}
 use Rattle.ra_node.specs.declared.error.AskError.{AskError}
 use Rattle.ra_node.specs.declared.error.AskError.TheVariants as ask
-use Rattle.ra_node.specs.Resource.{Holds, IsKeptWaiting, IsBusy}
+use Rattle.ra_node.specs.Resource.{IsBusy}
 use Rattle.ra_node.specs.Turns.{MayAsk}
 use Rattle.ra_node.specs.Node.{NodeState, resource_at}
 use Rattle.ra_book.specs.declared.error.BookError.{BookError}
-use Rattle.ra_book.specs.declared.error.BookError.TheVariants.{Failed, Busy, Exhausted, NotHeld, NotWaiting, ClockFull, Memory}
+use Rattle.ra_book.specs.declared.error.BookError.TheVariants.{Failed, Busy, Exhausted, ClockFull, Memory}
 use Rattle.ra_book.specs.declared.book.event.BookKind.{BookKind}
-use Rattle.ra_book.specs.declared.book.event.BookKind.TheVariants.{Ask, Leave, Cancel}
+use Rattle.ra_book.specs.declared.book.event.BookKind.TheVariants.{Ask}
 use Rattle.ra_book.specs.declared.book.stop.Stop.{Stop}
 use Rattle.ra_book.specs.Refused.{refusal_of_ask}
 use Rattle.ra_book.specs.EventChecks.{CanHappen, IsRefusedAfter}
 use Rattle.ra_book.specs.History.{clock_after, clock_of}
 use Rattle.ra_book.specs.Book.{BookState, whole_events, LeadsTo, HasHistory, HasClock, Runs}
-use Rattle.ra_book.specs.Keeping.{Keeps, IsForThisBook, ComesNext, HasNextClock, IsChecked, AnswersAsk, RefusesAsk, AnswersLeave, RefusesLeave, AnswersCancel, RefusesCancel}
+use Rattle.ra_book.specs.Keeping.{Keeps, IsForThisBook, ComesNext, HasNextClock, IsChecked, AnswersAsk, RefusesAsk}
 
 -- a book leads to one node, so what is said of that node is said of the one that is kept
 pub runs_is :
@@ -223,133 +222,3 @@ module _ (book : BookState) (client : ℕ) (name : List ℕ) (mode : Mode) where
         ask_full full.1 (has_next book clock (Ask client name mode) is (Err ClockFull) (refl, full.2)).1 why full.0
     ask_refused clock is why (inr (inr memory)) =
         ask_memory memory.1 (has_next book clock (Ask client name mode) is (Ok (clock_after clock (Ask client name mode))) (refl, memory.2)) why memory.0
-
--- ---- A leave
-
--- the client holds the name, by some request
-abbrev IsHeld : NodeState → ℕ → List ℕ → Type 0
-IsHeld node client name = (entry : Entry) × Holds (resource_at node name) client entry
-
-module _ (book : BookState) (client : ℕ) (name : List ℕ) where
-  pub leave_failed : {T : Type 0} → IsSome book.fault → AnswersLeave {T = T} book client name (Err Failed)
-  leave_failed some = record {
-    failed = (λ _. some, λ _. refl);
-    not_held = (λ is. absurd (cc), λ runs. absurd (has_fault book.fault some runs.no_fault));
-    clock_full = (λ is. absurd (cc), λ runs. absurd (has_fault book.fault some runs.no_fault));
-    allowed = (λ is. absurd (cc), λ runs. absurd (has_fault book.fault some runs.no_fault));
-  }
-
-  module _ (node : NodeState) (none : book.fault ≡ None) (at : (P : NodeState → Type 0) → Runs book P ↔ ((book.fault ≡ None) × P node)) where
-    -- the client does not hold it
-    pub leave_not_held : {T : Type 0} → (IsHeld node client name → ⊥) → (x : BookError) → x ≡ NotHeld → AnswersLeave {T = T} book client name (Err x)
-    leave_not_held not_held x h = record {
-      failed = (λ is. absurd (cc), λ some. absurd (has_fault book.fault some none));
-      not_held = (λ _. (at _).1 (none, λ entry holds. not_held (entry, holds)), λ _. ap Err h);
-      clock_full = (λ is. absurd (cc), λ runs. absurd (not_held ((at _).0 runs).1.0));
-      allowed = (λ is. absurd (cc), λ runs. absurd (not_held ((at _).0 runs).1.0));
-    }
-
-    -- it holds it, and no clock is left
-    leave_full : {T : Type 0} → IsHeld node client name → (HasClock book (Leave client name) → ⊥) → (x : BookError) → x ≡ ClockFull
-        → AnswersLeave {T = T} book client name (Err x)
-    leave_full held full x h = record {
-      failed = (λ is. absurd (cc), λ some. absurd (has_fault book.fault some none));
-      not_held = (λ is. absurd (cc), λ runs. absurd (((at _).0 runs).1 held.0 held.1));
-      clock_full = (λ _. (at _).1 (none, (held, full)), λ _. ap Err h);
-      allowed = (λ is. absurd (cc), λ runs. absurd (full ((at _).0 runs).1.1));
-    }
-
-    -- it holds it, and a clock is left
-    pub leave_allowed : {T : Type 0} (v : T) → IsHeld node client name → HasClock book (Leave client name) → AnswersLeave book client name (Ok v)
-    leave_allowed v held has = record {
-      failed = (λ is. absurd (cc), λ some. absurd (has_fault book.fault some none));
-      not_held = (λ is. absurd (cc), λ runs. absurd (((at _).0 runs).1 held.0 held.1));
-      clock_full = (λ is. absurd (cc), λ runs. absurd (((at _).0 runs).1.1 has));
-      allowed = (λ _. (at _).1 (none, (held, has)), λ _. tt);
-    }
-
-    -- the check of it
-    pub leave_checked : (clock : ℕ) → clock ≡ clock_of (whole_events book) → (r : Result ℕ BookError) → IfErr r (λ e. e ≢ Memory)
-        → MatchResult r (CanHappen node clock (Leave client name)) (IsRefusedAfter node clock (Leave client name)) → IfErr r (RefusesLeave book client name)
-    leave_checked clock is (Ok next) other can = tt
-    leave_checked clock is (Err e) other refused = by_cause e other refused
-      where
-        by_cause : (x : BookError) → x ≢ Memory → IsRefusedAfter node clock (Leave client name) x → RefusesLeave book client name x
-        by_cause x other (inl not_held) = leave_not_held (λ held. not_held.1 held.0 held.1) x not_held.0
-        by_cause x other (inr (inl full)) = leave_full full.1 (has_next book clock (Leave client name) is (Err ClockFull) (refl, full.2)).1 x full.0
-        by_cause x other (inr (inr memory)) = absurd (other memory.0)
-
-  pub leave_passed : {T S : Type 0} (e : BookError) → AnswersLeave {T = T} book client name (Err e)
-      → (r : Result S BookError) → IsErrAnd r (λ x. x ≡ e) → AnswersLeave book client name r
-  leave_passed {T} {S} e answers (Ok v) h = absurd h
-  leave_passed {T} {S} e answers (Err x) h = record {
-    failed = passed x e Failed h answers.failed;
-    not_held = passed x e NotHeld h answers.not_held;
-    clock_full = passed x e ClockFull h answers.clock_full;
-    allowed = passed_allowed T S x e Memory h answers.allowed;
-  }
-
--- ---- A cancel
-
--- the client waits or is queued for the name
-abbrev IsKept : NodeState → ℕ → List ℕ → Type 0
-IsKept node client name = IsKeptWaiting (resource_at node name) client
-
-module _ (book : BookState) (client : ℕ) (name : List ℕ) where
-  pub cancel_failed : {T : Type 0} → IsSome book.fault → AnswersCancel {T = T} book client name (Err Failed)
-  cancel_failed some = record {
-    failed = (λ _. some, λ _. refl);
-    not_waiting = (λ is. absurd (cc), λ runs. absurd (has_fault book.fault some runs.no_fault));
-    clock_full = (λ is. absurd (cc), λ runs. absurd (has_fault book.fault some runs.no_fault));
-    allowed = (λ is. absurd (cc), λ runs. absurd (has_fault book.fault some runs.no_fault));
-  }
-
-  module _ (node : NodeState) (none : book.fault ≡ None) (at : (P : NodeState → Type 0) → Runs book P ↔ ((book.fault ≡ None) × P node)) where
-    -- the client does neither
-    pub cancel_not_waiting : {T : Type 0} → (IsKept node client name → ⊥) → (x : BookError) → x ≡ NotWaiting → AnswersCancel {T = T} book client name (Err x)
-    cancel_not_waiting not_waiting x h = record {
-      failed = (λ is. absurd (cc), λ some. absurd (has_fault book.fault some none));
-      not_waiting = (λ _. (at _).1 (none, not_waiting), λ _. ap Err h);
-      clock_full = (λ is. absurd (cc), λ runs. absurd (not_waiting ((at _).0 runs).1.0));
-      allowed = (λ is. absurd (cc), λ runs. absurd (not_waiting ((at _).0 runs).1.0));
-    }
-
-    -- it does, and no clock is left
-    cancel_full : {T : Type 0} → IsKept node client name → (HasClock book (Cancel client name) → ⊥) → (x : BookError) → x ≡ ClockFull
-        → AnswersCancel {T = T} book client name (Err x)
-    cancel_full kept full x h = record {
-      failed = (λ is. absurd (cc), λ some. absurd (has_fault book.fault some none));
-      not_waiting = (λ is. absurd (cc), λ runs. absurd (((at _).0 runs).1 kept));
-      clock_full = (λ _. (at _).1 (none, (kept, full)), λ _. ap Err h);
-      allowed = (λ is. absurd (cc), λ runs. absurd (full ((at _).0 runs).1.1));
-    }
-
-    -- it does, and a clock is left
-    pub cancel_allowed : {T : Type 0} (v : T) → IsKept node client name → HasClock book (Cancel client name) → AnswersCancel book client name (Ok v)
-    cancel_allowed v kept has = record {
-      failed = (λ is. absurd (cc), λ some. absurd (has_fault book.fault some none));
-      not_waiting = (λ is. absurd (cc), λ runs. absurd (((at _).0 runs).1 kept));
-      clock_full = (λ is. absurd (cc), λ runs. absurd (((at _).0 runs).1.1 has));
-      allowed = (λ _. (at _).1 (none, (kept, has)), λ _. tt);
-    }
-
-    -- the check of it
-    pub cancel_checked : (clock : ℕ) → clock ≡ clock_of (whole_events book) → (r : Result ℕ BookError) → IfErr r (λ e. e ≢ Memory)
-        → MatchResult r (CanHappen node clock (Cancel client name)) (IsRefusedAfter node clock (Cancel client name)) → IfErr r (RefusesCancel book client name)
-    cancel_checked clock is (Ok next) other can = tt
-    cancel_checked clock is (Err e) other refused = by_cause e other refused
-      where
-        by_cause : (x : BookError) → x ≢ Memory → IsRefusedAfter node clock (Cancel client name) x → RefusesCancel book client name x
-        by_cause x other (inl not_waiting) = cancel_not_waiting not_waiting.1 x not_waiting.0
-        by_cause x other (inr (inl full)) = cancel_full full.1 (has_next book clock (Cancel client name) is (Err ClockFull) (refl, full.2)).1 x full.0
-        by_cause x other (inr (inr memory)) = absurd (other memory.0)
-
-  pub cancel_passed : {T S : Type 0} (e : BookError) → AnswersCancel {T = T} book client name (Err e)
-      → (r : Result S BookError) → IsErrAnd r (λ x. x ≡ e) → AnswersCancel book client name r
-  cancel_passed {T} {S} e answers (Ok v) h = absurd h
-  cancel_passed {T} {S} e answers (Err x) h = record {
-    failed = passed x e Failed h answers.failed;
-    not_waiting = passed x e NotWaiting h answers.not_waiting;
-    clock_full = passed x e ClockFull h answers.clock_full;
-    allowed = passed_allowed T S x e Memory h answers.allowed;
-  }

@@ -127,34 +127,6 @@ pub record AnswersAsk {T : Type 0} (book : BookState) (client : ℕ) (name : Lis
 abbrev pub RefusesAsk : BookState → ℕ → List ℕ → Mode → BookError → Type 0
 RefusesAsk book client name mode refused = AnswersAsk {T = Posted} book client name mode (Err refused)
 
--- a leave is answered as `Book::leave` says
-pub record AnswersLeave {T : Type 0} (book : BookState) (client : ℕ) (name : List ℕ) (answer : Result T BookError) : Type 0 where
-  pub failed : IsErrOf answer Failed ↔ IsSome book.fault
-  pub not_held : IsErrOf answer NotHeld
-      ↔ Runs book (λ node. (entry : Entry) → Holds (resource_at node name) client entry → ⊥)
-  pub clock_full : IsErrOf answer ClockFull
-      ↔ Runs book (λ node. ((entry : Entry) × Holds (resource_at node name) client entry) × (HasClock book (Leave client name) → ⊥))
-  pub allowed : IsOkUnless answer Memory
-      ↔ Runs book (λ node. ((entry : Entry) × Holds (resource_at node name) client entry) × HasClock book (Leave client name))
-
--- a leave is refused for this cause, as `Book::leave` says
-abbrev pub RefusesLeave : BookState → ℕ → List ℕ → BookError → Type 0
-RefusesLeave book client name refused = AnswersLeave {T = Posted} book client name (Err refused)
-
--- a cancel is answered as `Book::cancel` says
-pub record AnswersCancel {T : Type 0} (book : BookState) (client : ℕ) (name : List ℕ) (answer : Result T BookError) : Type 0 where
-  pub failed : IsErrOf answer Failed ↔ IsSome book.fault
-  pub not_waiting : IsErrOf answer NotWaiting
-      ↔ Runs book (λ node. IsKeptWaiting (resource_at node name) client → ⊥)
-  pub clock_full : IsErrOf answer ClockFull
-      ↔ Runs book (λ node. IsKeptWaiting (resource_at node name) client × (HasClock book (Cancel client name) → ⊥))
-  pub allowed : IsOkUnless answer Memory
-      ↔ Runs book (λ node. IsKeptWaiting (resource_at node name) client × HasClock book (Cancel client name))
-
--- a cancel is refused for this cause, as `Book::cancel` says
-abbrev pub RefusesCancel : BookState → ℕ → List ℕ → BookError → Type 0
-RefusesCancel book client name refused = AnswersCancel {T = Posted} book client name (Err refused)
-
 -- bytes that come are answered as `Book::receive` says
 pub record AnswersReceive {T : Type 0} (book : BookState) (bytes : List ℕ) (answer : Result T BookError) : Type 0 where
   pub failed : IsErrOf answer Failed ↔ IsSome book.fault

@@ -4,6 +4,7 @@ pub mod Departures
 pub mod Keeping
 pub mod Refused
 pub mod EventChecks
+pub mod Endings
 pub mod Timed
 pub mod Settled
 pub mod Pairs

@@ -1,4 +1,5 @@
 pub mod departure;
+pub mod endings;
 pub mod event;
 pub mod event_check;
 pub mod event_effect;
@@ -17,7 +18,8 @@ ghost use Rattle.ra_node.specs.Resource.{Holds};
 ghost use Rattle.ra_node.specs.Node.{resource_at};
 
 use crate::book::departure::Departure;
-use crate::book::event_check::{check_event, event_refusal, room_refusal};
+use crate::book::endings::Ending;
+use crate::book::event_check::{event_refusal, room_refusal};
 use crate::book::event_room::{answers_to, make_room, most_sent, room_to_ask, with_room};
 use crate::book::frame_search::is_kept;
 use crate::book::kept_events::{clock_after, flag_lost, keep};
@@ -94,7 +96,7 @@ impl Book {
     ghost use Rattle.ra_node.specs.Node.{NodeState};
     ghost use Rattle.ra_book.specs.History.{clock_of};
     ghost use Rattle.ra_book.specs.Book.{opening_book, whole_events, with_all_taken, IsWhole, LeadsTo, HasHistory, HasClock, Adds, Runs, ReadsFrame, IsFirst, Loses};
-    ghost use Rattle.ra_book.specs.Keeping.{HasNextClock, IsChecked, RefusesAsk, RefusesLeave, RefusesCancel, RefusesReceive, IsRead};
+    ghost use Rattle.ra_book.specs.Keeping.{HasNextClock, IsChecked, RefusesAsk, RefusesReceive, IsRead};
 
     /// Makes the book of node `me` of `nodes`, in which nothing has happened yet. The highest number of each resource
     /// begins at `start`, 0 to 2^64-1, which is to be the same at all nodes. It does not allocate until the first
@@ -224,23 +226,7 @@ impl Book {
             × HasClock self.old (BookKind.Leave client name)) }
         ensures err { OnErr result (self.new ≡ self.old) }
     {
-        let clock = self.check_leave(client, name)?;
-        let Some(departure) = self.departures.pop() else {
-            // There is a departure for each client that holds.
-            return Err(BookError::NotHeld);
-        };
-        let Departure {
-            mut outcome,
-            frames,
-        } = departure;
-        let Ok(()) = self.node.leave_into(alloc, client, name, &mut outcome) else {
-            // The outcome has room, so the client does not hold the name. The departure is as before.
-            self.departures.push_reserved(Departure { outcome, frames });
-            return Err(BookError::NotHeld);
-        };
-        let kind = BookKind::Leave { client, name };
-        let event = BookEvent { clock, kind };
-        Ok(keep(&mut self.events, &mut self.sent, frames, event, outcome))
+        self.end(alloc, &Ending::Leave { client, name })
     }
 
     /// A client that waits or is queued for a name gives it up. The clock is one more than before, and the frames and
@@ -272,24 +258,7 @@ impl Book {
             × HasClock self.old (BookKind.Cancel client name)) }
         ensures err { OnErr result (self.new ≡ self.old) }
     {
-        let clock = self.check_cancel(client, name)?;
-        let Some(departure) = self.departures.pop() else {
-            // There is a departure for each client that waits or is queued.
-            return Err(BookError::NotWaiting);
-        };
-        let Departure {
-            mut outcome,
-            frames,
-        } = departure;
-        let Ok(()) = self.node.cancel_into(alloc, client, name, &mut outcome) else {
-            // The outcome has room, so the client neither waits nor is queued. The departure is as before.
-            let unused = Departure { outcome, frames };
-            self.departures.push_reserved(unused);
-            return Err(BookError::NotWaiting);
-        };
-        let kind = BookKind::Cancel { client, name };
-        let event = BookEvent { clock, kind };
-        Ok(keep(&mut self.events, &mut self.sent, frames, event, outcome))
+        self.end(alloc, &Ending::Cancel { client, name })
     }
 
     /// The node forgets names, as [`Node::forget`] says. The clock is one more than before, and nothing is posted.
@@ -569,48 +538,6 @@ impl Book {
         }
         let kind = BookKind::Ask { client, name, mode };
         event_refusal(&self.node, self.clock(), &kind)
-    }
-
-    /// Returns the clock that the leave of a client has if the client holds the name. It looks that up only if no
-    /// clock is left, since `NotHeld` comes before `ClockFull`.
-    ///
-    /// # Errors
-    ///
-    /// Those of `leave`, except for `Memory`. `NotHeld` comes only if no clock is left.
-    fn check_leave(&self, client: u32, name: Name) -> Result<u64, BookError>
-        ensures checked { IsChecked self.now (HasNextClock self.now (BookKind.Leave client name)) result }
-        ensures refused { IfErr result (RefusesLeave self.now client name) }
-    {
-        if self.fault.is_some() {
-            return Err(BookError::Failed);
-        }
-        let kind = BookKind::Leave { client, name };
-        let latest = self.clock();
-        match clock_after(latest, &kind) {
-            Ok(clock) => Ok(clock),
-            Err(_) => check_event(&self.node, latest, &kind),
-        }
-    }
-
-    /// Returns the clock that the cancel of a client has if the client waits or is queued for the name. It looks that
-    /// up only if no clock is left, since `NotWaiting` comes before `ClockFull`.
-    ///
-    /// # Errors
-    ///
-    /// Those of `cancel`, except for `Memory`. `NotWaiting` comes only if no clock is left.
-    fn check_cancel(&self, client: u32, name: Name) -> Result<u64, BookError>
-        ensures checked { IsChecked self.now (HasNextClock self.now (BookKind.Cancel client name)) result }
-        ensures refused { IfErr result (RefusesCancel self.now client name) }
-    {
-        if self.fault.is_some() {
-            return Err(BookError::Failed);
-        }
-        let kind = BookKind::Cancel { client, name };
-        let latest = self.clock();
-        let Ok(clock) = clock_after(latest, &kind) else {
-            return check_event(&self.node, latest, &kind);
-        };
-        Ok(clock)
     }
 
     /// Returns the frame that the bytes are the text of, and the clock that its coming has if the node takes it. It
