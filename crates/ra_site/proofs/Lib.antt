@@ -3,5 +3,6 @@ mod LostFrames
 mod NoError
 mod GivenGrants
 mod RecordedEvents
+mod Telling
 mod EndedRequests
 pub mod Refusing

@@ -31,6 +31,7 @@ pub record Giver (grant : Grant) : Type 0 where
   pub history : HasHistory book
 
 -- Some book gave the grant. It need not be the book of a site: a book that gave it exists for each request that a node
--- can make. No clause can name the book that is under the lock of a site: of what a lock guards, only its type is known.
+-- can make. No clause can name the book that is under the lock of a site, since of what a lock guards only its type is
+-- known.
 abbrev pub WasGiven : Grant → Type 0
 WasGiven grant = ∥ Giver grant ∥₁

@@ -4,8 +4,8 @@ use Rattle.ra_stamp.specs.NodeId.{IsNodeNumber}
 use Rattle.ra_site.specs.declared.post.NewPostError.{NewPostError}
 use Rattle.ra_site.specs.declared.post.NewPostError.TheVariants.{BadCount, Memory}
 
--- how many nodes the cluster has, the highest number with which each resource begins, and whether it is audited while it
--- runs, so that its books need not be whole
+-- how many nodes the cluster has, the highest number with which each resource begins, and whether it is audited while
+-- it runs, so that its books need not be whole
 pub record ClusterState : Type 0 where
   pub nodes : ℕ
   pub start : ℕ

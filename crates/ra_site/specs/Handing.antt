@@ -9,8 +9,8 @@ use Rattle.ra_site.specs.declared.site.take_error.TakeError.TheVariants.{NoNode,
 use Rattle.ra_site.specs.Losses.{lost_frames}
 use Rattle.ra_site.specs.Sites.{SiteState}
 
--- Of a book of this node with its history, from which all was taken up to an event with this clock, this is all that is left: the
--- events after that one, and those of the frames that they sent that are flagged lost.
+-- This is all that is left of a book of this node with its history, after all up to an event with this clock was taken:
+-- the events after that one, and the frames that they sent and that are flagged lost.
 pub record IsAllLeft (book : BookState) (node after : ℕ) (events : List BookEvent) (lost : List Frame) : Type 0 where
   pub me : book.me ≡ node
   pub history : HasHistory book
@@ -18,11 +18,12 @@ pub record IsAllLeft (book : BookState) (node after : ℕ) (events : List BookEv
   pub events_are : events ≡ book.events
   pub lost_are : lost ≡ lost_frames book.sent
 
--- there is a book of the node of which this is all that is left after that clock
+-- some book of the node has just this left after that clock
 abbrev pub IsLeftOfBook : ℕ → ℕ → List BookEvent → List Frame → Type 0
 IsLeftOfBook node after events lost = (book : BookState) × IsAllLeft book node after events lost
 
--- What a site hands over after that clock: if it is audited, all that a book of its node has left, and otherwise nothing.
+-- What a site hands over after that clock: all that a book of its node has left if it is audited, and otherwise
+-- nothing.
 pub record IsHandedOver (site : SiteState) (after : ℕ) (events : List BookEvent) (lost : List Frame) : Type 0 where
   pub audited : site.audited ≡ true → IsLeftOfBook site.node after events lost
   pub unaudited : site.audited ≡ false → (events ≡ []) × (lost ≡ [])

@@ -3,6 +3,7 @@ pub mod Sites
 pub mod ClientGrant
 pub mod Recorded
 pub mod PassedOn
+pub mod Waiting
 pub mod Cluster
 pub mod Losses
 pub mod Handing

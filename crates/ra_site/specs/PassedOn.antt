@@ -4,7 +4,7 @@ use Rattle.ra_site.specs.declared.site.SiteError.{SiteError}
 use Rattle.ra_site.specs.declared.site.SiteError.TheVariants.{Cancelled}
 use Rattle.ra_site.specs.Recorded.{WasGivenBack}
 
--- the call is not answered `Cancelled`, which is told to a thread that waits, and to no other
+-- the call is not answered `Cancelled`; only a call that waits is
 abbrev pub IsNotCancelled : {T : Type 0} → Result T SiteError → Type 0
 IsNotCancelled answer = IsErrOf answer Cancelled → ⊥
 

@@ -1,4 +1,4 @@
--- The events of which calls of a site tell: a client gave up, or gave a name back, or a node forgot names.
+-- The events that answers of a site report: a client gave up or gave a name back, or a node forgot names.
 use Rattle.std.specs.Prelude.{◌≡◌, ℕ, List}
 use Rattle.ra_stamp.specs.declared.entry.Mark.{Mark}
 use Rattle.ra_frame.specs.declared.frame.Frame.{Frame}
@@ -17,8 +17,8 @@ pub record Recorder (node : ℕ) (kind : BookKind) : Type 0 where
   pub me_is : book.me ≡ node
 
 -- Some book of this node has an event of this kind as its last one. It need not be the book of a site: a book like this
--- exists for each node, client and name. No clause can name the book that is under the lock of a site: of what a lock
--- guards, only its type is known.
+-- exists for each node, client and name. No clause can name the book that is under the lock of a site, since of what a
+-- lock guards only its type is known.
 abbrev pub WasRecorded : ℕ → BookKind → Type 0
 WasRecorded node kind = ∥ Recorder node kind ∥₁
 

@@ -98,7 +98,8 @@ impl<G> Model for Cluster<G> {
 
     ghost view = { λ c. record { nodes = vec_len c.sites; start = c.start; audited = c.audited } };
 
-    ghost invariant = { λ c. IsNodeNumber (vec_len c.sites) × (c.sites.items ≡ sites_to (vec_len c.sites) c.audited) };
+    ghost invariant = { λ c. IsNodeNumber (vec_len c.sites)
+        × (c.sites.items ≡ sites_to (vec_len c.sites) c.audited) };
 }
 
 impl<G: Gate + Drop> Cluster<G> {
@@ -510,8 +511,8 @@ impl<G: Gate + Drop> Cluster<G> {
     /// nodes.
     ///
     /// If a round of an audit has taken the events of a node, its history is not in its book any more. In place of that
-    /// book there is an empty one, which is stopped: for the cause of that book, or with [`Stop::Refused`] if it has
-    /// none. What no round has taken is lost, so end the audit first. [`Cluster::close_audited`] returns the books as
+    /// book there is an empty one, which is stopped: for the cause of that book, or with [`Stop::Refused`] if it has no
+    /// cause. What no round has taken is lost, so end the audit first. [`Cluster::close_audited`] returns the books as
     /// they are.
     pub fn close(self, alloc: Global) -> Vec<Book>
         ensures cluster { IsCluster result.items }

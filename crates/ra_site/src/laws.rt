@@ -1,4 +1,4 @@
-//! What is true of the grants of a site, and of the requests that ended. Each function does nothing, and its contract is
+//! What is true of the grants of a site, and of requests that ended. Each function does nothing, and its contract is
 //! the law.
 ghost use Rattle.std.specs.Prelude.{◌≡◌, ℕ, List};
 ghost use Rattle.ra_stamp.specs.declared.entry.Mark.TheVariants.{Entered};

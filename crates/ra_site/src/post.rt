@@ -55,8 +55,7 @@ pub struct Inbox {
 /// What carries frames between the nodes of a cluster: an inbox for each node, and for each inbox the one sender, until
 /// the post is closed. Threads share it.
 pub struct Post {
-    /// In the order of the nodes. There are none once the post is closed. Threads that send share it, and only a close
-    /// excludes them.
+    /// In the order of the nodes, until the post is closed. Threads that send share it, and only a close excludes them.
     senders: RwLock<Option<Vec<FrameSender>>>,
 }
 

@@ -69,8 +69,8 @@ impl From<BookError> for SiteError {
 /// clients. A round of an audit waits until all frames of such a call were tried, so each loss is flagged when it takes
 /// what the book has.
 ///
-/// A client that waits has a ticket of its own. When an event lets it in, its thread is told by this ticket after the
-/// lock is given back, and no other thread is woken. A stop wakes all.
+/// A client that waits has a ticket of its own. When an event lets it in, the ticket tells its thread after the lock is
+/// given back, and no other thread is woken. A stop wakes all.
 ///
 /// Each such call costs what the book's call costs and the sending of the frames. If its event lets a client in, it
 /// also takes time linear in the number of clients that wait at the node. For each frame that the post does not take,
@@ -160,7 +160,7 @@ impl Site {
     /// 1. `Stopped`: the gate answered `false`. Nothing was asked. The cause is the one that the node keeps, of an
     ///    earlier stop if there was one.
     /// 2. `Refused`: the book refused it, as [`Book::ask`] says, with `Failed` if the node was stopped before. Nothing
-    ///    was asked. `Memory` also comes if there is none for the wait.
+    ///    was asked. `Memory` also comes if there is no memory for the wait.
     /// 3. `Stopped`: the node was stopped before the client was let in, and its request stays in the book. `Cancelled`:
     ///    the client gave up before, by [`Site::cancel`] on another thread.
     pub fn lock<R: Wait, G: Gate>(
@@ -401,15 +401,16 @@ impl Site {
         stopped_book(alloc, me, nodes, start, cause)
     }
 
-    /// Makes a request of a client of this node, and sends the frames of the event. Returns the ticket by which the
-    /// outcome is told.
+    /// Makes a request of a client of this node, and sends the frames of the event. Returns the ticket that will have
+    /// the outcome.
     ///
     /// # Errors
     ///
     /// The first that holds, and nothing was asked:
     ///
     /// 1. `Stopped`: the gate answered `false`.
-    /// 2. `Refused`: the book refused it, as [`Book::ask`] says. `Memory` also comes if there is none for the wait.
+    /// 2. `Refused`: the book refused it, as [`Book::ask`] says. `Memory` also comes if there is no memory for the
+    ///    wait.
     fn ask<R: Wait, G: Gate>(
         &self,
         rt: &R,
@@ -436,7 +437,7 @@ impl Site {
         ticket.ok_or(SiteError::Refused(BookError::Memory))
     }
 
-    /// Hands the book frames, and sends those of their events, with no round of an audit in between. Puts what came of
+    /// Hands the book frames, and sends those of their events, with no round of an audit in between. Puts the result of
     /// each into the list. Returns whether all were sent, and if one was not received, why; those before it were.
     fn carry<R: Wait, G: Gate>(
         &self,
@@ -534,7 +535,7 @@ impl Site {
         SiteError::Stopped(self.fault(rt).unwrap_or(stop))
     }
 
-    /// Sends the frames of an event, and flags each that the post refuses as lost. Returns whether there was none.
+    /// Sends the frames of an event, and flags each that the post refuses as lost. Returns whether the post took all.
     fn send<R: Wait>(&self, rt: &R, alloc: Global, frames: &[Frame], post: &Post) -> bool
         requires { All Fits frames.now }
     {

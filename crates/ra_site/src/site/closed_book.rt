@@ -7,7 +7,7 @@ use crate::{Book, Stop};
 use ra_stamp::NodeId;
 use std::alloc::Global;
 
-/// Returns whether a book is whole, and that of this node, of this many nodes, from this start.
+/// Returns whether a book is whole, and its node is this one, of this many nodes, from this start.
 pub fn is_whole_of(book: &Book, me: NodeId, nodes: u16, start: u64) -> bool
     ensures { IsTrue result ↔ IsWholeBookOf me nodes start book.now }
 {

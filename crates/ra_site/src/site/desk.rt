@@ -1,6 +1,7 @@
 //! What is under the lock of a site: the book, and the clients that wait.
 ghost use Rattle.std.specs.Prelude.{◌≡◌, ◌≢◌, ◌↔◌, ◌⊎◌, ◌<◌, false, [], List, All, Contains, IsNone};
-ghost use Rattle.std.specs.Prelude.{IfOk, IfSome, IsErrOf, OnErr, OnOk, vec_len, vec_capacity};
+ghost use Rattle.std.specs.Prelude.{IfNone, IfOk, IfSome, IsErrOf, IsTrue, OnErr, OnOk};
+ghost use Rattle.std.specs.Prelude.{slice_index_or, vec_len, vec_capacity};
 ghost use Rattle.std.specs.Option.{ForSome};
 ghost use Rattle.ra_frame.specs.Fits.{Fits};
 ghost use Rattle.ra_book.specs.History.{clock_of};
@@ -14,6 +15,8 @@ ghost use Rattle.ra_site.specs.declared.site.SiteError as site;
 ghost use Rattle.ra_site.specs.ClientGrant.{Gives, WasGiven};
 ghost use Rattle.ra_site.specs.Recorded.{WasGivenUp, WasGivenBack, HasForgotten};
 ghost use Rattle.ra_site.specs.PassedOn.{IsNotCancelled};
+ghost use Rattle.ra_site.specs.Waiting.{IsWaiterFor, WaitsNot};
+ghost use Rattle.ra_site.specs.declared.site.desk.Waiter as waiting;
 ghost use Rattle.ra_site.specs.Handing.{IsAllLeft, OnlyTurnOrMemory};
 ghost use Rattle.ra_site.specs.Losses.{lost_frames};
 
@@ -30,14 +33,23 @@ use std::alloc::Global;
 use std::mem;
 use std::sync::Arc;
 
-/// A client that waits, and the ticket by which its thread is told the outcome of its request. A client has at most one
+/// A client that waits, and the ticket that tells its thread the outcome of its request. A client has at most one
 /// request on a name, so the two name the request.
 #[derive(Drop)]
 pub struct Waiter {
     client: u32,
     name: Name,
-    /// By which its thread is told.
+    /// It tells the client's thread.
     pub ticket: SharedTicket,
+}
+
+impl Waiter {
+    /// Returns whether it is this client, which waits for this name.
+    fn is_for(&self, client: u32, name: &Name) -> bool
+        ensures { IsTrue result ↔ IsWaiterFor client name.now self.now }
+    {
+        self.client == client && self.name == *name
+    }
 }
 
 /// What a call made of the book: the frames to send, the client that it let in and the one that gave up, if there are
@@ -90,7 +102,7 @@ impl Desk {
         }
     }
 
-    /// Asks the gate of this node for a step. Returns why none is made, or `None` if it is.
+    /// Asks the gate of this node for a step. Returns why the step is not made, or `None` if it is.
     fn halt<G: Gate>(&self, node: NodeId, gate: &G) -> Option<Stop>
         ensures { IsNone result → self.now.book.me ≡ node }
     {
@@ -105,8 +117,8 @@ impl Desk {
         }
     }
 
-    /// Asks the gate of this node, and then a client asks for a name. Its thread is told by this ticket when the client
-    /// is let in, at once or later, or when the node is stopped.
+    /// Asks the gate of this node, and then a client asks for a name. This ticket tells its thread when the client is
+    /// let in, at once or later, or when it gives up or the node is stopped.
     ///
     /// # Errors
     ///
@@ -123,7 +135,8 @@ impl Desk {
         ticket: Option<&SharedTicket>,
     ) -> Result<Stepped, SiteError>
         ensures made { IfOk result
-            (λ stepped. (marks : List mark.Mark) × Adds self.old.book (Ask request.now.client request.now.name request.now.mode) stepped.frames.items marks
+            (λ stepped. (marks : List mark.Mark)
+            × Adds self.old.book (Ask request.now.client request.now.name request.now.mode) stepped.frames.items marks
             self.new.book) }
         ensures given { IfOk result
             (λ stepped. IfSome stepped.told (λ told. Gives self.old.book self.new.book told.1)) }
@@ -223,6 +236,8 @@ impl Desk {
             (λ stepped. IfSome stepped.told (λ told. Gives self.old.book self.new.book told.1)) }
         ensures err { OnErr result (self.new.book ≡ self.old.book) }
         ensures recorded { OnOk result (WasGivenUp node client name) }
+        ensures told { IfOk result (λ stepped.
+            IfNone stepped.given_up (WaitsNot client name self.old.waiters.items)) }
         ensures refused { (why : BookError) → IsErrOf result (site.SiteError.Refused why)
             → RefusesCancel self.old.book client name why }
         ensures others { IsNotCancelled result }
@@ -235,14 +250,14 @@ impl Desk {
         Ok(self.stepped(posted, given_up))
     }
 
-    /// Does what `cancel` does for the client of this request, if that still waits by this ticket. A later request of the
+    /// Does what `cancel` does for the client of this request, if it still waits by this ticket. A later request of the
     /// same client for the same name is not touched.
     ///
     /// # Errors
     ///
     /// The first that holds:
     ///
-    /// 1. `Refused` with `NotWaiting`: it waits by this ticket no more. The outcome is told by the ticket.
+    /// 1. `Refused` with `NotWaiting`: it waits by this ticket no more. The ticket tells the outcome.
     /// 2. Those of `cancel`.
     pub fn give_up<G: Gate>(
         &mut self,
@@ -259,6 +274,8 @@ impl Desk {
         ensures given { IfOk result
             (λ stepped. IfSome stepped.told (λ told. Gives self.old.book self.new.book told.1)) }
         ensures recorded { OnOk result (WasGivenUp node request.now.client request.now.name) }
+        ensures told { IfOk result (λ stepped.
+            IfNone stepped.given_up (WaitsNot request.now.client request.now.name self.old.waiters.items)) }
         ensures err { OnErr result (self.new.book ≡ self.old.book) }
         ensures others { IsNotCancelled result }
     {
@@ -354,7 +371,7 @@ impl Desk {
         ensures { IsFirst self.old.book.sent frame.now false → Loses self.old.book.sent frame.now self.new.book.sent }
     {
         self.may_have_lost = true;
-        // The book sent it, no round took it before it was tried, and nobody else flags it.
+        // The book sent it, no round took it before it was tried, and no other thread flags it.
         let _ = self.book.mark_lost(frame);
     }
 
@@ -422,6 +439,7 @@ impl Desk {
         requires given { (grant : granted.Grant) → Contains posted.marks.items (mark.Mark.Entered grant.entry)
             → WasGiven grant }
         ensures frames { result.frames.items ≡ posted.frames.items }
+        ensures given_up { result.given_up ≡ given_up }
         ensures entered { IfSome result.told (λ told. Contains posted.marks.items (mark.Mark.Entered told.1.entry)) }
         ensures book { self.new.book ≡ self.old.book }
     {
@@ -454,6 +472,7 @@ impl Desk {
         name: Name,
     ) -> Option<(SharedTicket, GivenUp)>
         requires { WasGivenUp node client name }
+        ensures none { IfNone result (WaitsNot client name self.old.waiters.items) }
         ensures book { self.new.book ≡ self.old.book }
     {
         let ticket = self.take(client, &name)?;
@@ -462,6 +481,7 @@ impl Desk {
 
     /// Takes a client that waits for a name out of those that wait, if it is among them. Returns its ticket.
     fn take(&mut self, client: u32, name: &Name) -> Option<SharedTicket>
+        ensures none { IfNone result (WaitsNot client name.now self.old.waiters.items) }
         ensures book { self.new.book ≡ self.old.book }
     {
         let place = self.place_of(client, name)?;
@@ -476,11 +496,13 @@ impl Desk {
 
     /// Returns the place of a client that waits for a name. The cost is linear in the number of those that wait.
     fn place_of(&self, client: u32, name: &Name) -> Option<usize>
-        ensures { IfSome result (λ place. place < vec_len self.now.waiters) }
+        ensures within { IfSome result (λ place. place < vec_len self.now.waiters) }
+        ensures waiter { IfSome result (λ place. (d : waiting.Waiter)
+            → IsWaiterFor client name.now (slice_index_or self.now.waiters.items place d)) }
+        ensures none { IfNone result (WaitsNot client name.now self.now.waiters.items) }
     {
         for place in 0..self.waiters.len() {
-            let waiter = &self.waiters[place];
-            if waiter.client == client && waiter.name == *name {
+            if self.waiters[place].is_for(client, name) {
                 return Some(place);
             }
         }

@@ -91,8 +91,7 @@ impl Site {
         if refused == SiteError::Refused(BookError::ClockFull) {
             stop_all(rt, sites, Stop::Clock);
         }
-        // The client was let in, or somebody else gave up for it, or the node is stopped: its thread is told which it
-        // was.
+        // The client was let in, or gave up by a call, or the node is stopped. The ticket tells which it was.
         match ticket.wait(rt, self.node, request) {
             Ok(grant) => Ok(Some(grant)),
             Err(why) => Err(why),

@@ -27,7 +27,7 @@ impl Model for Sending {
 }
 
 impl Sending {
-    /// Makes that of a site, audited or not.
+    /// Makes the lock of a site, audited or not.
     pub fn new(audited: bool) -> Sending
         ensures { result ≡ audited }
     {

@@ -24,7 +24,8 @@ pub struct Ticket {
     /// The grant, or why there is none, once it is told.
     outcome: Mutex<Option<Outcome>>,
     waits: Parker,
-    /// Whether it was taken from the desk of its site, to be told its outcome. It is read and written under the desk's lock.
+    /// Whether it was taken from the desk of its site, to be told its outcome. It is read and written under the lock of
+    /// the desk.
     taken: AtomicBool,
 }
 

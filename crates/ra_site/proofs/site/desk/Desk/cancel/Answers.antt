@@ -2,8 +2,10 @@ use Rattle.std.proofs.Common.{List, refl, sym, subst, ◌∙◌}
 use Rattle.ra_frame.specs.declared.frame.Frame.{Frame}
 use Rattle.ra_book.specs.declared.book.event.BookKind.TheVariants.{Cancel}
 use Rattle.ra_book.specs.Book.{BookState, Adds}
+use Rattle.ra_site.specs.Waiting.{WaitsNot}
 use Rattle.ra_site.proofs.GivenGrants.{given, told_is_given}
 use Rattle.ra_site.proofs.RecordedEvents.{recorded}
+use Rattle.ra_site.proofs.Telling.{same_none}
 use Rattle.ra_site.proofs.LostFrames.{still_none_after}
 use Rattle.ra_book.specs.Keeping.{RefusesCancel}
 use Rattle.ra_book.specs.declared.error.BookError.{BookError}
@@ -34,6 +36,7 @@ returns g c =
         subst (λ (b : BookState). Adds c.args.self.now.book kind c.stepped.result.frames.items marks b) (sym same)
             (subst (λ (fs : List Frame). Adds c.args.self.now.book kind fs marks c.cancel.new.self) (sym c.stepped.ensures.frames) c.in_ok-posted.ensures.ok),
       );
+      told = same_none (WaitsNot c.args.client c.args.name c.args.self.now.waiters.items) _ _ c.stepped.ensures.given_up c.take_given_up-given_up.ensures.none;
       err = tt;
       recorded = recorded c.args.node kind c.args.self.now.book c.in_ok-posted.posted.frames.items marks c.cancel.new.self c.in_ok-posted.ensures.ok
           c.in_ok-posted.ensures.history (c.in_default.ensures refl);
