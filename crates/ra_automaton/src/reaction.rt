@@ -1,6 +1,6 @@
 use ra_stamp::Messages;
 
-/// What comes of an event outside the automaton.
+/// What an event causes outside the automaton.
 #[derive(Debug, Drop)]
 pub struct Reaction {
     /// The messages to send, in this order: the REPLYs in ascending order of the nodes, and then the REQUESTs,
