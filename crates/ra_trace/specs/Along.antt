@@ -30,7 +30,8 @@ pub record IsDone (limit left : ℕ) (old now : Option (List ℕ)) (checker : Ch
   pub prefix : List Line
   pub so_far : HasTaken limit left old now prefix
   pub number_is : number ≡ length prefix + 1
-  pub trace : IsTraceIn checker.version checker.world.count checker.world.start checker.world.moves (flat_map line_text prefix)
+  pub trace : IsTraceIn checker.version checker.world.count checker.world.start checker.world.moves
+      (flat_map line_text prefix)
   pub lines : prefix ≡ trace_lines checker.version checker.world.count checker.world.start checker.world.moves
 
 -- what happens at the first line, of this many bytes: the checker has taken it, or the line is wrong, or a fault came

@@ -18,26 +18,29 @@ use Rattle.ra_trace.specs.Reading.{Judges, ReadsOn, PassesLimit, StopsAfter}
 use Rattle.ra_trace.specs.Marks.{grants_in, IsMarkRun, IsMarksVerdict, marks_text}
 use Rattle.ra_trace.specs.MarksReading.{JudgesMarks, ReadsOnMarks, PassesMarksLimit, StopsAfterMarks}
 
--- The answer of a check of a trace, which may have this many bytes. `old` is what was left in the reader before it, if the
--- reader tells, and `new` is what is left after it.
+-- The answer of a check of a trace, which may have this many bytes. `old` is what was left in the reader before it, if
+-- the reader tells, and `new` is what is left after it.
 pub record ChecksTrace (most : ℕ) (old new : Option (List ℕ)) (result : Result Verdict TraceError) : Type 0 where
   -- the verdict is that of the whole input, even if that is longer than what was read
   pub ok : IfOk result (λ verdict. IfSome old (λ input. IsVerdict input verdict))
   -- a valid text was read to its end, and is no longer than it may be
   pub valid : IfOk result (λ verdict. IfSome old (λ input. (requests messages : ℕ)
       → verdict ≡ Valid requests messages → (length input ≤ most) × Consumes old new input))
-  -- the marks of a valid text are a run of the lock table: no two conflicting entries on one name hold at once, and they
-  -- are granted in the order of their stamps
+  -- the marks of a valid text are a run of the lock table: no two conflicting entries on one name hold at once, and
+  -- they are granted in the order of their stamps
   pub table : IfOk result (λ verdict. IfSome old (λ input. (requests messages : ℕ)
       → verdict ≡ Valid requests messages → IsTraceOfTableRun input))
   -- how far it was read, and that this shows the verdict
   pub judged : IfOk result (Judges most old new)
   -- what was read has this verdict too
-  pub alone : IfOk result (λ verdict. (taken : List ℕ) × IsVerdict taken verdict × (length taken ≤ most) × Consumes old new taken)
+  pub alone : IfOk result (λ verdict. (taken : List ℕ) × IsVerdict taken verdict × (length taken ≤ most)
+      × Consumes old new taken)
   -- the input has no other verdict, so it is valid exactly if it is the trace of a run, with the counts of this run
-  pub exact : IfOk result (λ verdict. IfSome old (λ input. (other : Verdict) → IsVerdict input other ↔ (verdict ≡ other)))
+  pub exact : IfOk result (λ verdict. IfSome old (λ input.
+      (other : Verdict) → IsVerdict input other ↔ (verdict ≡ other)))
   pub trace : IfOk result (λ verdict. IfSome old (λ input. (version : Version) (n start : ℕ) (moves : List Move)
-      → IsTraceIn version n start moves input → verdict ≡ Valid (requests_in (marks_of moves)) (length (sent_by moves))))
+      → IsTraceIn version n start moves input
+      → verdict ≡ Valid (requests_in (marks_of moves)) (length (sent_by moves))))
   -- what was read before a refusal leaves the verdict open; if memory ran out, it was right lines and nothing else
   pub failed : IsErrOf result Read → ReadsOn most old new
   pub limit : IsErrOf result Limit → PassesLimit most old new
@@ -55,12 +58,15 @@ pub record ChecksLog (most : ℕ) (old new : Option (List ℕ)) (result : Result
   -- how far it was read, and that this shows the verdict
   pub judged : IfOk result (JudgesMarks most old new)
   -- what was read has this verdict too
-  pub alone : IfOk result (λ verdict. (taken : List ℕ) × IsMarksVerdict taken verdict × (length taken ≤ most) × Consumes old new taken)
+  pub alone : IfOk result (λ verdict. (taken : List ℕ) × IsMarksVerdict taken verdict × (length taken ≤ most)
+      × Consumes old new taken)
   -- the input has no other verdict, so it is valid exactly if its lines are the marks of a run of the lock table
-  pub exact : IfOk result (λ verdict. IfSome old (λ input. (other : MarksVerdict) → IsMarksVerdict input other ↔ (verdict ≡ other)))
+  pub exact : IfOk result (λ verdict. IfSome old (λ input.
+      (other : MarksVerdict) → IsMarksVerdict input other ↔ (verdict ≡ other)))
   pub run : IfOk result (λ verdict. IfSome old (λ input. (marks : List Mark)
       → IsMarkRun marks → input ≡ marks_text marks → verdict ≡ log.Valid (requests_in marks) (grants_in marks)))
-  -- what was read before a refusal leaves the verdict open; if memory ran out, it was the lines of a run and nothing else
+  -- what was read before a refusal leaves the verdict open; if memory ran out, it was the lines of a run and nothing
+  -- else
   pub failed : IsErrOf result Read → ReadsOnMarks most old new
   pub limit : IsErrOf result Limit → PassesMarksLimit most old new
   pub memory : IsErrOf result Memory → StopsAfterMarks most old new

@@ -37,7 +37,8 @@ HasSameDue old new = all_due new ≡ all_due old
 -- the checker has taken these lines: they are a prefix of a trace, the world has made its steps, and the lock table its
 -- marks
 pub record IsCheckerOf (checker : Checker) (lines : List Line) : Type 0 where
-  pub prefix : IsTracePrefix checker.version checker.world.count checker.world.start checker.world.moves (all_due checker) lines
+  pub prefix : IsTracePrefix checker.version checker.world.count checker.world.start checker.world.moves
+      (all_due checker) lines
   pub table : TableRun (marks_in lines) checker.table
 
 -- nothing has happened yet in a cluster of this many nodes
@@ -62,7 +63,8 @@ Takes old Last new = (new ≡ old) × (all_due old ≡ marks_due [])
 
 -- the line is wrong for this cause, after any lines that the checker may have taken
 pub record Refuses (checker : Checker) (line : Line) (why : Cause) : Type 0 where
-  pub wrong : (lines : List Line) (text rest : List ℕ) → IsCheckerOf checker lines → BeginsReadable text line rest → IsWrong lines text why
+  pub wrong : (lines : List Line) (text rest : List ℕ) → IsCheckerOf checker lines → BeginsReadable text line rest
+      → IsWrong lines text why
 
 -- the line is right after any lines that the checker may have taken, whether or not there is memory for it
 pub record Allows (checker : Checker) (line : Line) : Type 0 where

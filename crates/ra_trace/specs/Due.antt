@@ -10,8 +10,8 @@ use Rattle.ra_trace.specs.declared.line.version.Version.{Version}
 use Rattle.ra_trace.specs.TraceText.{line_text}
 use Rattle.ra_trace.specs.Verdict.{Due, IsTracePrefix, due_lines}
 
--- the lines of the text before this one, counted from 1, are those of a run but for what of its last move is still due, and
--- `next` is the first line of that, or `None` if there is none
+-- the lines of the text before this one, counted from 1, are those of a run but for what of its last move is still due,
+-- and `next` is the first line of that, or `None` if there is none
 pub record IsDueAt (text : List ℕ) (line : ℕ) (next : Option Line) : Type 0 where
   pub prefix : List Line
   pub rest : List ℕ

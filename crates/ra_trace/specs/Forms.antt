@@ -34,7 +34,8 @@ use Rattle.ra_trace.specs.TraceText.{line_text, IsMarkLine, IsMessageLine, IsSte
 -- whether these are digits, one or more, without leading zeros
 abbrev pub is_decimal : List ℕ → Bool
 is_decimal digits =
-    (nat_le 1 (length digits) && list_all is_ascii_digit digits) && (length digits == 1 || not (slice_index digits 0 == 48))
+    (nat_le 1 (length digits) && list_all is_ascii_digit digits)
+    && (length digits == 1 || not (slice_index digits 0 == 48))
 
 -- the number of a decimal, if it is within these bounds, both included
 abbrev pub number_within : ℕ → ℕ → List ℕ → Option ℕ
@@ -93,7 +94,8 @@ before read text = option_and_then (λ parts. option_map (λ field. (field, part
 
 -- the field before the first space, and the other fields, after it
 abbrev pub fields : {A B : Type 0} → (List ℕ → Option A) → (List ℕ → Option B) → List ℕ → Option (A × B)
-fields read others text = option_and_then (λ prefix. option_map (λ rest. (prefix.0, rest)) (others prefix.1)) (before read text)
+fields read others text =
+    option_and_then (λ prefix. option_map (λ rest. (prefix.0, rest)) (others prefix.1)) (before read text)
 
 -- the first line of a trace of this version, after the words that name it: the number of nodes and the start value
 abbrev pub first_as : Version → List ℕ → Option Line
@@ -107,7 +109,8 @@ start_and_word (Some parts) text =
 
 -- the first line of a trace of version 3
 abbrev pub third_in : List ℕ → Option Line
-third_in text = option_map (λ f. First f.1.0 f.0 f.1.1) (fields node_of (λ rest. start_and_word (cut 32 rest) rest) text)
+third_in text =
+    option_map (λ f. First f.1.0 f.0 f.1.1) (fields node_of (λ rest. start_and_word (cut 32 rest) rest) text)
 
 -- the first line of a trace, after the words that name its version
 abbrev pub first_in : Version → List ℕ → Option Line
@@ -202,7 +205,7 @@ pub record Form : Type 0 where
   pub words : List ℕ
   pub read : List ℕ → Option Line
 
--- the twenty forms, no two of which begin alike, those of most lines first
+-- the twenty forms, which begin differently, those of most lines first
 abbrev pub forms : List Form
 forms =
     record { words = codes "request "; read = λ rest. option_map (λ entry. Marked (Requested entry)) (entry_in rest) } ∷
@@ -269,7 +272,8 @@ allows_mark version (Withdrawn entry) = has_cancels version && allows_entry vers
 
 -- whether a version allows a message: its two nodes, and the mode of a REQUEST
 abbrev pub allows_message : Version → Message → Bool
-allows_message version (Request from to name mode seq) = (has_node version from && has_node version to) && has_mode version mode
+allows_message version (Request from to name mode seq) =
+    (has_node version from && has_node version to) && has_mode version mode
 allows_message version (Reply from to name seq) = has_node version from && has_node version to
 
 -- whether a version allows the line of a message that is sent: that it tells sends, and its nodes and its mode

@@ -1,6 +1,6 @@
--- Mark logs: what a lock service wrote down, a line for each request, grant, release and withdrawal, as traces of version
--- 3 have the lines of marks. The verdict on such a text is that the marks are a run of the lock table, or which line is the
--- first wrong one and why.
+-- Mark logs: what a lock service wrote down, a line for each request, grant, release and withdrawal, as traces of
+-- version 3 have the lines of marks. The verdict on such a text is that the marks are a run of the lock table, or which
+-- line is the first wrong one and why.
 use Rattle.std.specs.Prelude.{◌≡◌, ◌≢◌, ◌⊎◌, ℕ, ◌+◌, List, [], ◌∷◌, ◌++◌, All, Contains, Option, Some, None, Result, Ok, Err, flat_map, length}
 use Rattle.ra_stamp.specs.declared.entry.Mark.{Mark}
 use Rattle.ra_stamp.specs.declared.entry.Mark.TheVariants.{Requested, Entered, Left, Withdrawn}
@@ -70,7 +70,9 @@ IsWrongMark marks text why =
 -- from 1, is the first wrong one
 abbrev pub IsMarksVerdict : List ℕ → MarksVerdict → Type 0
 IsMarksVerdict text (Valid requests grants) =
-    (marks : List Mark) × IsMarkRun marks × (text ≡ marks_text marks) × (requests ≡ requests_in marks) × (grants ≡ grants_in marks)
+    (marks : List Mark) × IsMarkRun marks × (text ≡ marks_text marks) × (requests ≡ requests_in marks)
+    × (grants ≡ grants_in marks)
 IsMarksVerdict text (Invalid line why) =
-    (marks : List Mark) × (rest : List ℕ) × IsMarkRun marks × (text ≡ marks_text marks ++ rest) × (line ≡ length marks + 1)
+    (marks : List Mark) × (rest : List ℕ) × IsMarkRun marks × (text ≡ marks_text marks ++ rest)
+    × (line ≡ length marks + 1)
     × IsWrongMark marks rest why

@@ -79,11 +79,14 @@ IsMissing count Right = ⊥
 IsMissing count End = count ≡ 0
 IsMissing count (Wrong why) = (why ≡ cause.Line) × (count ≢ 0)
 
--- what happens at the line with this number, of this many bytes: the log has taken it, or the text is at its end, or the
--- line is wrong, or a fault occurred
-abbrev pub TurnsMarks : ℕ → ℕ → Option (List ℕ) → Option (List ℕ) → MarkLog → ℕ → ℕ → Result MarkJudgement TraceError → Type 0
-TurnsMarks limit left old new after number count (Ok Right) = IsAlongMarks limit (left - count) old new after (number + 1)
-TurnsMarks limit left old new after number count (Ok End) = JudgesMarks limit old new (Valid after.requests after.grants)
+-- what happens at the line with this number, of this many bytes: the log has taken it, or the text is at its end, or
+-- the line is wrong, or a fault occurred
+abbrev pub TurnsMarks : ℕ → ℕ → Option (List ℕ) → Option (List ℕ) → MarkLog → ℕ → ℕ → Result MarkJudgement TraceError
+    → Type 0
+TurnsMarks limit left old new after number count (Ok Right) =
+    IsAlongMarks limit (left - count) old new after (number + 1)
+TurnsMarks limit left old new after number count (Ok End) =
+    JudgesMarks limit old new (Valid after.requests after.grants)
 TurnsMarks limit left old new after number count (Ok (Wrong why)) = JudgesMarks limit old new (Invalid number why)
 TurnsMarks limit left old new after number count (Err fault) = AnswersMarks limit old new (Err fault)
 

@@ -20,7 +20,8 @@ pub record HasReadMarks (limit : ℕ) (old new : Option (List ℕ)) (marks : Lis
 
 -- what these marks and bytes show
 abbrev pub ShowsMarks : List Mark → List ℕ → MarksVerdict → Type 0
-ShowsMarks marks rest (Valid requests grants) = (rest ≡ []) × (requests ≡ requests_in marks) × (grants ≡ grants_in marks)
+ShowsMarks marks rest (Valid requests grants) =
+    (rest ≡ []) × (requests ≡ requests_in marks) × (grants ≡ grants_in marks)
 ShowsMarks marks rest (Invalid line why) = (line ≡ length marks + 1) × IsWrongMark marks rest why
 
 -- a verdict on what was read; it comes when a line is over, or when the input is at its end
@@ -31,7 +32,8 @@ JudgesMarks limit old new verdict =
 
 -- no verdict was reached: what was read does not end the line that comes next
 abbrev pub ReadsOnMarks : ℕ → Option (List ℕ) → Option (List ℕ) → Type 0
-ReadsOnMarks limit old new = (marks : List Mark) × (rest : List ℕ) × HasReadMarks limit old new marks rest × IsOpenLine rest
+ReadsOnMarks limit old new =
+    (marks : List Mark) × (rest : List ℕ) × HasReadMarks limit old new marks rest × IsOpenLine rest
 
 -- no verdict was reached within the limit, and one more byte came
 abbrev pub PassesMarksLimit : ℕ → Option (List ℕ) → Option (List ℕ) → Type 0

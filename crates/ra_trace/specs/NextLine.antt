@@ -50,29 +50,34 @@ IsPart most shown count is_over = (count ≤ length shown) × (count ≤ most) �
 -- the line is over with its last byte, which is its line feed or its 128th byte
 abbrev pub IsOverLine : List ℕ → Type 0
 IsOverLine bytes =
-    (before : List ℕ) × (byte : ℕ) × IsOpenLine before × (bytes ≡ before ++ byte ∷ []) × ((byte ≡ 10) ⊎ (length bytes ≡ 128))
+    (before : List ℕ) × (byte : ℕ) × IsOpenLine before × (bytes ≡ before ++ byte ∷ [])
+    × ((byte ≡ 10) ⊎ (length bytes ≡ 128))
 
 -- the bytes do not begin with a line, and will not, whatever follows them
 abbrev pub HasNone : List ℕ → Option (List ℕ) → Type 0
 HasNone bytes new =
-    ((line : Line) (rest : List ℕ) → BeginsReadable bytes line rest → ⊥) × (IsOverLine bytes ⊎ (IsOpenLine bytes × IsAtEnd new))
+    ((line : Line) (rest : List ℕ) → BeginsReadable bytes line rest → ⊥)
+    × (IsOverLine bytes ⊎ (IsOpenLine bytes × IsAtEnd new))
 
 -- which line these bytes are, or that they are not one
 abbrev pub ReadsNext : ℕ → Option (List ℕ) → Option (List ℕ) → List ℕ → Result (Option Line) TraceError → Type 0
-ReadsNext left old new bytes (Ok (Some line)) = TakesBytes left old new bytes × BeginsReadable bytes line [] × EndsSo Feed bytes new
+ReadsNext left old new bytes (Ok (Some line)) =
+    TakesBytes left old new bytes × BeginsReadable bytes line [] × EndsSo Feed bytes new
 ReadsNext left old new bytes (Ok None) = TakesBytes left old new bytes × HasNone bytes new
 ReadsNext left old new bytes (Err fault) = FailsWithin left old new bytes fault
 
 -- which line was read, of how many bytes, or that a fault came
 abbrev pub ReadsSome : ℕ → Option (List ℕ) → Option (List ℕ) → ℕ → Option Line → Result (Unit {0}) TraceError → Type 0
-ReadsSome left old new count line (Ok read) = (bytes : List ℕ) × (length bytes ≡ count) × ReadsNext left old new bytes (Ok line)
+ReadsSome left old new count line (Ok read) =
+    (bytes : List ℕ) × (length bytes ≡ count) × ReadsNext left old new bytes (Ok line)
 ReadsSome left old new count line (Err fault) = (bytes : List ℕ) × ReadsNext left old new bytes (Err fault)
 
 -- What follows the last line of a trace whose run the checker knows: nothing, or one byte, which would begin the line
 -- of this number.
 abbrev pub EndsText : ℕ → Option (List ℕ) → Option (List ℕ) → Checker → ℕ → Result Verdict TraceError → Type 0
 EndsText left old new checker number (Ok (Valid requests messages)) =
-    Consumes old new [] × IsAtEnd new × (requests ≡ requests_in (marks_of checker.world.moves)) × (messages ≡ length (sent_by checker.world.moves))
+    Consumes old new [] × IsAtEnd new × (requests ≡ requests_in (marks_of checker.world.moves))
+    × (messages ≡ length (sent_by checker.world.moves))
 EndsText left old new checker number (Ok (Invalid line why)) =
     (byte : ℕ) × (1 ≤ left) × Consumes old new (byte ∷ []) × (line ≡ number) × (why ≡ cause.Line)
 EndsText left old new checker number (Err Read) = FailsWithin left old new [] Read

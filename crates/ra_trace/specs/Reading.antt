@@ -15,12 +15,14 @@ use Rattle.ra_trace.specs.Verdict.{Due, IsTracePrefix, IsWrong, IsVerdict}
 -- the lines are those of a whole trace
 abbrev pub IsWhole : List Line → Type 0
 IsWhole prefix =
-    (version : Version) × (n start : ℕ) × (moves : List Move) × IsTraceIn version n start moves (flat_map line_text prefix)
+    (version : Version) × (n start : ℕ) × (moves : List Move)
+    × IsTraceIn version n start moves (flat_map line_text prefix)
     × (prefix ≡ trace_lines version n start moves)
 
 -- the lines are those of a prefix of a trace: the last one has not come
 abbrev pub HasBegun : List Line → Type 0
-HasBegun prefix = (version : Version) × (n start : ℕ) × (moves : List Move) × (due : Due) × IsTracePrefix version n start moves due prefix
+HasBegun prefix = (version : Version) × (n start : ℕ) × (moves : List Move) × (due : Due)
+    × IsTracePrefix version n start moves due prefix
 
 -- no line yet, or the lines of a prefix of a trace, or of a whole one
 abbrev pub AreRight : List Line → Type 0
@@ -49,7 +51,8 @@ pub record HasRead (limit : ℕ) (old new : Option (List ℕ)) (prefix : List Li
 
 -- what these lines and bytes show
 abbrev pub Shows : List Line → List ℕ → Verdict → Type 0
-Shows prefix rest (Valid requests messages) = (rest ≡ []) × IsVerdict (flat_map line_text prefix) (Valid requests messages)
+Shows prefix rest (Valid requests messages) =
+    (rest ≡ []) × IsVerdict (flat_map line_text prefix) (Valid requests messages)
 Shows prefix rest (Invalid line why) = (line ≡ length prefix + 1) × IsWrong prefix rest why
 
 -- a verdict on what was read; it comes when a line is over, or when the input is at its end
@@ -72,7 +75,8 @@ PassesLimit limit old new =
 -- last
 abbrev pub StopsAfter : ℕ → Option (List ℕ) → Option (List ℕ) → Type 0
 StopsAfter limit old new =
-    (prefix : List Line) × HasBegun prefix × Consumes old new (flat_map line_text prefix) × (length (flat_map line_text prefix) ≤ limit)
+    (prefix : List Line) × HasBegun prefix × Consumes old new (flat_map line_text prefix)
+    × (length (flat_map line_text prefix) ≤ limit)
 
 -- what each answer says of what was read
 abbrev pub Answers : ℕ → Option (List ℕ) → Option (List ℕ) → Result Verdict TraceError → Type 0

@@ -1,5 +1,5 @@
--- Traces: a run, written down line by line, in one of three versions, the last of them with or without what is sent. A line is words with one space between two, and a
--- line feed at its end. Numbers are decimal, without leading zeros.
+-- Traces: a run, written down line by line, in one of three versions, the last of them with or without what is sent. A
+-- line is words with one space between two, and a line feed at its end. Numbers are decimal, without leading zeros.
 use Rattle.std.specs.Prelude.{◌≡◌, ℕ, ◌<◌, ◌≤◌, ◌^◌, Bool, true, false, if◌then◌else◌, List, ◌∷◌, [], ◌++◌, All, codes, decimal, map, flat_map}
 use Rattle.ra_stamp.specs.Name.{IsName}
 use Rattle.ra_stamp.specs.NodeId.{IsNodeNumber}
@@ -41,7 +41,8 @@ send_line message = codes "send" ++ message_fields message ++ codes "\n"
 -- resource begins, and in version 3 whether the sends are told
 abbrev pub line_text : Line → List ℕ
 line_text (First version nodes start) =
-    codes "trace" ++ field (version_word version) ++ field (decimal nodes) ++ field (decimal start) ++ (first_end version ++ codes "\n")
+    codes "trace" ++ field (version_word version) ++ field (decimal nodes) ++ field (decimal start)
+    ++ (first_end version ++ codes "\n")
 line_text (Stepped step) = step_line step
 line_text (Sent message) = send_line message
 line_text (Marked mark) = mark_line mark
@@ -58,7 +59,8 @@ IsSeq seq = (1 ≤ seq) × (seq < 2 ^ 64)
 -- each field of a request is in its range in this version
 abbrev pub IsEntryLine : Version → Entry → Type 0
 IsEntryLine version entry =
-    IsNodeIn version entry.stamp.node × IsClientNumber entry.client × IsName entry.name × IsModeIn version entry.mode × IsSeq entry.stamp.seq
+    IsNodeIn version entry.stamp.node × IsClientNumber entry.client × IsName entry.name × IsModeIn version entry.mode
+    × IsSeq entry.stamp.seq
 
 -- each field of a mark is in its range in this version, and only version 3 has a withdrawal
 abbrev pub IsMarkLine : Version → Mark → Type 0
@@ -73,12 +75,14 @@ IsMessageLine version (Request from to name mode seq) =
     IsNodeIn version from × IsNodeIn version to × IsName name × IsModeIn version mode × IsSeq seq
 IsMessageLine version (Reply from to name seq) = IsNodeIn version from × IsNodeIn version to × IsName name × IsSeq seq
 
--- each field of a step is in its range in this version, which has a repeat from version 2 on, and a cancel and to forget in
--- version 3
+-- each field of a step is in its range in this version, which has a repeat from version 2 on, and a cancel and to
+-- forget in version 3
 abbrev pub IsStepLine : Version → Step → Type 0
-IsStepLine version (Ask node client name mode) = IsNodeIn version node × IsClientNumber client × IsName name × IsModeIn version mode
+IsStepLine version (Ask node client name mode) =
+    IsNodeIn version node × IsClientNumber client × IsName name × IsModeIn version mode
 IsStepLine version (Leave node client name) = IsNodeIn version node × IsClientNumber client × IsName name
-IsStepLine version (Cancel node client name) = MayCancel version × IsNodeIn version node × IsClientNumber client × IsName name
+IsStepLine version (Cancel node client name) =
+    MayCancel version × IsNodeIn version node × IsClientNumber client × IsName name
 IsStepLine version (Deliver message) = IsMessageLine version message
 IsStepLine version (Lose message) = IsMessageLine version message
 IsStepLine version (Repeat message) = MayRepeat version × IsMessageLine version message
@@ -128,13 +132,14 @@ needs_third (Lose message) = false
 needs_third (Repeat message) = false
 needs_third (Forget node) = true
 
--- the version in which a run of these steps is written without what is sent: version 2 if it has them all, and otherwise 3
+-- the version in which a run of these steps is written without what is sent: version 2 if it has them all, and
+-- otherwise 3
 abbrev pub plain_version : List Step → Version
 plain_version [] = Two
 plain_version (step ∷ steps) = if needs_third step then Three else plain_version steps
 
--- The text is the trace of these moves without what is sent, in version 2 or 3, as their steps need. Traces of each version are
--- read, and this is the one that is written.
+-- The text is the trace of these moves without what is sent, in version 2 or 3, as their steps need. Traces of each
+-- version are read, and this is the one that is written.
 abbrev pub IsTrace : ℕ → ℕ → List Move → List ℕ → Type 0
 IsTrace n start moves text = IsTraceIn (plain_version (map (λ (move : Move). move.step) moves)) n start moves text
 

@@ -1,6 +1,6 @@
 -- What a checker says of a text: that it is the trace of a run, or which line is the first wrong one and why. It goes
--- line by line. After each line it knows the version that the first line named, the run so far, and which sends and marks of
--- the last step have not come yet.
+-- line by line. After each line it knows the version that the first line named, the run so far, and which sends and
+-- marks of the last step have not come yet.
 use Rattle.std.specs.Prelude.{◌≡◌, ◌≢◌, ◌⊎◌, ℕ, ◌+◌, List, [], ◌∷◌, ◌++◌, All, map, flat_map, length}
 use Rattle.ra_stamp.specs.NodeId.{IsNodeNumber}
 use Rattle.ra_stamp.specs.declared.entry.Mark.{Mark}
@@ -33,9 +33,10 @@ marks_due marks = record { sends = []; marks = marks }
 abbrev pub due_lines : Due → List Line
 due_lines due = map Sent due.sends ++ map Marked due.marks
 
--- the lines so far are those of these moves in this version, except for what of the last move is still due; the moves are
--- a run
-pub record IsTracePrefix (version : Version) (n start : ℕ) (moves : List Move) (due : Due) (lines : List Line) : Type 0 where
+-- the lines so far are those of these moves in this version, except for what of the last move is still due; the moves
+-- are a run
+pub record IsTracePrefix (version : Version) (n start : ℕ) (moves : List Move) (due : Due)
+    (lines : List Line) : Type 0 where
   pub count : IsNodeNumber n
   pub run : IsRun n start moves
   pub each : All (IsLine version) lines
@@ -90,10 +91,13 @@ IsFirst Last = ⊥
 -- again. Or the trace is complete, and something follows its last line.
 abbrev pub HasNoLine : List Line → List ℕ → Type 0
 HasNoLine prefix text =
-    ((prefix ≡ []) × ((version : Version) (line : Line) (rest : List ℕ) → BeginsWith version text line rest → IsFirst line → ⊥))
-    ⊎ ((version : Version) × (n start : ℕ) × (moves : List Move) × (due : Due) × IsTracePrefix version n start moves due prefix
+    ((prefix ≡ []) × ((version : Version) (line : Line) (rest : List ℕ) → BeginsWith version text line rest
+    → IsFirst line → ⊥))
+    ⊎ ((version : Version) × (n start : ℕ) × (moves : List Move) × (due : Due)
+    × IsTracePrefix version n start moves due prefix
     × ((line : Line) (rest : List ℕ) → BeginsWith version text line rest → IsFirst line))
-    ⊎ ((version : Version) × (n start : ℕ) × (moves : List Move) × IsTraceIn version n start moves (flat_map line_text prefix)
+    ⊎ ((version : Version) × (n start : ℕ) × (moves : List Move)
+    × IsTraceIn version n start moves (flat_map line_text prefix)
     × (prefix ≡ trace_lines version n start moves) × (text ≢ []))
 
 -- with these messages still to be told, the line is not that of the next one
@@ -115,29 +119,35 @@ IsUndue marks due Last = due ≢ []
 -- why the line that comes next in the text is wrong, after these lines, which are right
 abbrev pub IsWrong : List Line → List ℕ → Cause → Type 0
 IsWrong prefix text cause.Line = HasNoLine prefix text
--- the line is a message, but not the next one that the step sends; or one is still to be told, and the line is no message
+-- the line is a message, but not the next one that the step sends; or one is still to be told, and the line is no
+-- message
 IsWrong prefix text cause.Sends =
-    (version : Version) × (n start : ℕ) × (moves : List Move) × (due : Due) × IsTracePrefix version n start moves due prefix
+    (version : Version) × (n start : ℕ) × (moves : List Move) × (due : Due)
+    × IsTracePrefix version n start moves due prefix
     × (line : Line) × (rest : List ℕ) × BeginsWith version text line rest
     × IsUnsent due.sends line
 -- no message is still to be told, and the lock table refuses the mark
 IsWrong prefix text cause.Table =
-    (version : Version) × (n start : ℕ) × (moves : List Move) × (due : List Mark) × IsTracePrefix version n start moves (marks_due due) prefix
+    (version : Version) × (n start : ℕ) × (moves : List Move) × (due : List Mark)
+    × IsTracePrefix version n start moves (marks_due due) prefix
     × (mark : Mark) × (rest : List ℕ) × BeginsWith version text (Marked mark) rest
     × (TableGoesOn (marks_in prefix) mark → ⊥)
--- likewise, and the lock table allows the mark, but it is not the next one that is due; or one is due, and the line is not a
--- mark
+-- likewise, and the lock table allows the mark, but it is not the next one that is due; or one is due, and the line is
+-- not a mark
 IsWrong prefix text cause.Marks =
-    (version : Version) × (n start : ℕ) × (moves : List Move) × (due : List Mark) × IsTracePrefix version n start moves (marks_due due) prefix
+    (version : Version) × (n start : ℕ) × (moves : List Move) × (due : List Mark)
+    × IsTracePrefix version n start moves (marks_due due) prefix
     × (line : Line) × (rest : List ℕ) × BeginsWith version text line rest
     × IsUndue (marks_in prefix) due line
 -- nothing is due, and the run does not go on with the step
 IsWrong prefix text cause.Refused =
-    (version : Version) × (n start : ℕ) × (moves : List Move) × IsTracePrefix version n start moves (marks_due []) prefix
+    (version : Version) × (n start : ℕ) × (moves : List Move)
+    × IsTracePrefix version n start moves (marks_due []) prefix
     × (step : Step) × (rest : List ℕ) × BeginsWith version text (Stepped step) rest
     × IsOfClient step × (GoesOn n start moves step → ⊥)
 IsWrong prefix text cause.NotUnderWay =
-    (version : Version) × (n start : ℕ) × (moves : List Move) × IsTracePrefix version n start moves (marks_due []) prefix
+    (version : Version) × (n start : ℕ) × (moves : List Move)
+    × IsTracePrefix version n start moves (marks_due []) prefix
     × (step : Step) × (rest : List ℕ) × BeginsWith version text (Stepped step) rest
     × IsOfMessage step × (GoesOn n start moves step → ⊥)
 

@@ -31,11 +31,13 @@ MoveFits version move = StepFits move.step × All MarkFits move.marks × (TellsS
 
 -- the text of all lines but the last
 abbrev pub prefix_text : Version → ℕ → ℕ → List Move → List ℕ
-prefix_text version n start moves = line_text (First version n start) ++ flat_map line_text (flat_map (move_lines version) moves)
+prefix_text version n start moves =
+    line_text (First version n start) ++ flat_map line_text (flat_map (move_lines version) moves)
 
--- the world of these nodes has made these steps and no others, and the text is that of its moves in this version without the last line,
--- unless memory ran out for some part of it
-pub record HasTraced (version : Version) (n start : ℕ) (steps : List Step) (world : WorldState) (text : Draft) : Type 0 where
+-- the world of these nodes has made these steps and no others, and the text is that of its moves in this version
+-- without the last line, unless memory ran out for some part of it
+pub record HasTraced (version : Version) (n start : ℕ) (steps : List Step) (world : WorldState)
+    (text : Draft) : Type 0 where
   pub number : IsNodeNumber n
   pub count : world.count ≡ n
   pub start_is : world.start ≡ start
@@ -62,19 +64,22 @@ OpensWorld n start (Err Write) = ⊥
 -- why no more of these steps were made
 abbrev pub StopsIn : ℕ → ℕ → List Step → WriteTraceError → Type 0
 StopsIn n start steps (Run run.BadCount) = ⊥
-StopsIn n start steps (Run (run.Refused place cause)) = IsRefusedAt n start steps place cause × (WorldRun n start steps → ⊥)
+StopsIn n start steps (Run (run.Refused place cause)) =
+    IsRefusedAt n start steps place cause × (WorldRun n start steps → ⊥)
 StopsIn n start steps (Run run.Memory) = ⊥
 StopsIn n start steps Memory = Unit {0}
 StopsIn n start steps Write = ⊥
 
 -- the steps `made` were made and written; or no more were made, since one of all `steps` was refused or memory ran out
-abbrev pub Traces : Version → ℕ → ℕ → List Step → List Step → WorldState → Draft → Result (Unit {0}) WriteTraceError → Type 0
+abbrev pub Traces : Version → ℕ → ℕ → List Step → List Step → WorldState → Draft → Result (Unit {0}) WriteTraceError
+    → Type 0
 Traces version n start made steps world text (Ok done) = HasTraced version n start made world text
 Traces version n start made steps world text (Err fault) = StopsIn n start steps fault
 
--- the trace of these steps was written, unless memory ran out for some part of it; or no more were made, since one of them was refused or
--- memory ran out
+-- the trace of these steps was written, unless memory ran out for some part of it; or no more were made, since one of
+-- them was refused or memory ran out
 abbrev pub Written : Version → ℕ → ℕ → List Step → Draft → Result (Unit {0}) WriteTraceError → Type 0
 Written version n start steps text (Ok done) =
-    (moves : List Move) × (bytes : List ℕ) × (map (λ (move : Move). move.step) moves ≡ steps) × IsTraceIn version n start moves bytes × Says text bytes
+    (moves : List Move) × (bytes : List ℕ) × (map (λ (move : Move). move.step) moves ≡ steps)
+    × IsTraceIn version n start moves bytes × Says text bytes
 Written version n start steps text (Err fault) = StopsIn n start steps fault

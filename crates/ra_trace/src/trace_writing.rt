@@ -23,6 +23,14 @@ use ra_world::{
 use std::alloc::Global;
 use std::io::Write;
 
+/// What the first line of a trace tells: the version, how many nodes the run has, and where their numbers begin.
+#[derive(Clone, Copy)]
+struct FirstLine {
+    version: Version,
+    nodes: u16,
+    start: u64,
+}
+
 /// Adds a word, and the node, the client and the name of a client's step.
 fn push_start(text: &mut Draft, word: &str, node: NodeId, client: u32, name: &Name)
     ensures { Adds text.old (word.now ++ field (decimal node) ++ field (decimal client) ++ field name.now) text.new }
@@ -100,7 +108,8 @@ fn push_marks(text: &mut Draft, marks: &Marks)
 /// Adds the lines of a step, of what it sends if this version tells it, and of its marks.
 fn push_move(text: &mut Draft, version: Version, step: &Step, sends: &Messages, marks: &Marks)
     ensures text { Adds text.old (spec.step_line step.now
-        ++ flat_map spec.line_text (spec.sent_lines version sends.now.items) ++ flat_map mark_line marks.now.items) text.new }
+        ++ flat_map spec.line_text (spec.sent_lines version sends.now.items)
+        ++ flat_map mark_line marks.now.items) text.new }
     ensures fit { StepFits step.now × All MarkFits marks.now.items
         × (TellsSends version → All MessageFits sends.now.items) }
 {
@@ -206,19 +215,19 @@ fn last_words(version: Version) -> &'static str
 }
 
 /// Adds the first line of a trace.
-fn push_first(text: &mut Draft, version: Version, nodes: u16, start: u64)
-    ensures { Adds text.old (codes "trace" ++ field (version_word version) ++ field (decimal nodes) ++ field (decimal start)
-        ++ (first_end version ++ codes "\n")) text.new }
+fn push_first(text: &mut Draft, first: FirstLine)
+    ensures { Adds text.old (codes "trace" ++ field (version_word first.version) ++ field (decimal first.nodes)
+        ++ field (decimal first.start) ++ (first_end first.version ++ codes "\n")) text.new }
 {
-    text.push(first_words(version));
-    text.push_number(nodes);
-    text.push_number(start);
-    text.push(last_words(version));
+    text.push(first_words(first.version));
+    text.push_number(first.nodes);
+    text.push_number(first.start);
+    text.push(last_words(first.version));
     text.end_line();
 }
 
-/// Adds the trace of a run in this version, which has all of its steps, to an empty text. The world is the one before
-/// its first step.
+/// Adds the trace of a run with this first line, whose version has all of its steps, to an empty text. The world is the
+/// one before its first step.
 ///
 /// # Errors
 ///
@@ -226,20 +235,18 @@ fn push_first(text: &mut Draft, version: Version, nodes: u16, start: u64)
 fn trace_run(
     alloc: Global,
     text: &mut Draft,
-    version: Version,
+    first: FirstLine,
     world: &mut MarklessWorld,
-    nodes: u16,
-    start: u64,
     steps: &Steps,
 ) -> Result<(), WriteTraceError>
-    requires { CanWrite version steps.now.items }
-    ensures { Says text.old [] → IsOpened nodes start world.old
-        → Written version nodes start steps.now.items text.new result }
+    requires { CanWrite first.version steps.now.items }
+    ensures { Says text.old [] → IsOpened first.nodes first.start world.old
+        → Written first.version first.nodes first.start steps.now.items text.new result }
 {
     // For the proof: each mark of a run has a number.
     marks_of_runs_are_numbered();
-    push_first(text, version, nodes, start);
-    match trace_steps(alloc, text, version, world, steps) {
+    push_first(text, first);
+    match trace_steps(alloc, text, first.version, world, steps) {
         Ok(()) => {}
         Err(fault) => return Err(fault),
     }
@@ -274,31 +281,25 @@ fn plain_version(steps: &Steps) -> Version
     Version::Two
 }
 
-/// Makes a run as [`trace_text`] does, and returns its trace in this version, which has all of its steps.
+/// Makes a run as [`trace_text`] does, and returns its trace with this first line, whose version has all of its steps.
 ///
 /// # Errors
 ///
 /// Those of [`trace_text`].
-fn text_in(
-    alloc: Global,
-    version: Version,
-    nodes: u16,
-    start: u64,
-    steps: &Steps,
-) -> Result<String, WriteTraceError>
-    requires { CanWrite version steps.now.items }
-    ensures ok { IfOk result (λ text. (moves : List Move)
-        × (map (λ move. move.step) moves ≡ steps.now.items) × IsTraceIn version nodes start moves (string_bytes text)) }
-    ensures refusals { TellsRefusals nodes start steps.now.items result }
+fn text_in(alloc: Global, first: FirstLine, steps: &Steps) -> Result<String, WriteTraceError>
+    requires { CanWrite first.version steps.now.items }
+    ensures ok { IfOk result (λ text. (moves : List Move) × (map (λ move. move.step) moves ≡ steps.now.items)
+        × IsTraceIn first.version first.nodes first.start moves (string_bytes text)) }
+    ensures refusals { TellsRefusals first.nodes first.start steps.now.items result }
     ensures early { IfErr result (λ fault. fault ≢ WriteTraceError.Write) }
 {
-    let mut world = match MarklessWorld::new(alloc, nodes, start) {
+    let mut world = match MarklessWorld::new(alloc, first.nodes, first.start) {
         Ok(world) => world,
         Err(NewError::BadCount) => return Err(WriteTraceError::Run(RunError::BadCount)),
         Err(NewError::Memory) => return Err(WriteTraceError::Memory),
     };
     let mut text = Draft::new(alloc);
-    let written = trace_run(alloc, &mut text, version, &mut world, nodes, start, steps);
+    let written = trace_run(alloc, &mut text, first, &mut world, steps);
     // By a call, and before any exit, since to drop it at each is longer to prove.
     drop(world);
     match written {
@@ -334,7 +335,13 @@ pub fn trace_text(
     ensures refusals { TellsRefusals nodes start steps.now.items result }
     ensures early { IfErr result (λ fault. fault ≢ WriteTraceError.Write) }
 {
-    text_in(alloc, plain_version(steps), nodes, start, steps)
+    let version = plain_version(steps);
+    let first = FirstLine {
+        version,
+        nodes,
+        start,
+    };
+    text_in(alloc, first, steps)
 }
 
 /// Makes a run as [`trace_text`] does, and returns its trace with what is sent, in version 3.
@@ -354,7 +361,13 @@ pub fn trace_text_with_sends(
     ensures refusals { TellsRefusals nodes start steps.now.items result }
     ensures early { IfErr result (λ fault. fault ≢ WriteTraceError.Write) }
 {
-    text_in(alloc, Version::ThreeWithSends, nodes, start, steps)
+    let version = Version::ThreeWithSends;
+    let first = FirstLine {
+        version,
+        nodes,
+        start,
+    };
+    text_in(alloc, first, steps)
 }
 
 /// Writes the trace of a run, as [`trace_text`] gives it: the whole run is made first. No write that failed is tried

@@ -46,7 +46,7 @@ fn read_rest<R: Read>(
     for _turn in bytes.len()..MAX_LINE {
         let came = match next_byte(reader) {
             Ok(came) => came,
-            Err(_) => return Err(TraceError::Read), // It can only be `Read`, as no memory is taken.
+            Err(_) => return Err(TraceError::Read),
         };
         let Some(byte) = came else {
             return Ok(LineEnd::Input);
@@ -62,7 +62,7 @@ fn read_rest<R: Read>(
     Ok(LineEnd::Length)
 }
 
-/// Reads the next line, of which the bytes in `room` came, as
+/// Reads the rest of the next line, whose first bytes are in `room`, as
 /// [`LineSource::next_line`](crate::line_source::LineSource::next_line) says. Each byte that follows is read by itself.
 ///
 /// # Errors

@@ -8,16 +8,16 @@ use Rattle.ra_trace.proofs.trace_writing.trace_run.Goals as goal
 
 pub returns-in-Err : goal.returns-in-Err
 returns-in-Err c empty opened =
-    let n = c.args.nodes in
-    let start = c.args.start in
-    let first : Says c.push_first.new.text (line_text (First c.args.version n start)) = c.push_first.ensures.says [] empty in
-    c.in-Err.ensures.traced n start (traced_none c.args.version n start c.args.world.now c.push_first.new.text opened first)
+    let n = c.args.first.nodes in
+    let start = c.args.first.start in
+    let first : Says c.push_first.new.text (line_text (First c.args.first.version n start)) = c.push_first.ensures.says [] empty in
+    c.in-Err.ensures.traced n start (traced_none c.args.first.version n start c.args.world.now c.push_first.new.text opened first)
 
 pub returns : goal.returns
 returns c empty opened =
-    let version = c.args.version in
-    let n = c.args.nodes in
-    let start = c.args.start in
+    let version = c.args.first.version in
+    let n = c.args.first.nodes in
+    let start = c.args.first.start in
     let law = c.marks_of_runs_are_numbered.ensures in
     let world = c.trace_steps.new.world in
     let first : Says c.push_first.new.text (line_text (First version n start)) = c.push_first.ensures.says [] empty in

@@ -18,7 +18,7 @@ as_plain bytes version n start steps (Err fault) is h = h
 pub returns : goal.returns
 returns c =
     record {
-      ok = as_plain string_bytes c.plain_version.result c.args.nodes c.args.start c.args.steps.now.items c.text_in.result c.plain_version.ensures.version c.text_in.ensures.ok;
+      ok = as_plain string_bytes c.plain_version-version.result c.args.nodes c.args.start c.args.steps.now.items c.text_in.result c.plain_version-version.ensures.version c.text_in.ensures.ok;
       refusals = c.text_in.ensures.refusals;
       early = c.text_in.ensures.early;
     }
