@@ -1,8 +1,8 @@
 -- A host that was ready once lacks nothing from then on, as long as no book is put back.
-use Rattle.std.proofs.Common.{◌≡◌, ◌≤◌, ◌<◌, ◌-◌, inl, inr, ℕ, List, [], ◌∷◌, ◌++◌, true, length, get_or, take, drop, refl, sym, ◌∙◌, ap, arith}
+use Rattle.std.proofs.Common.{◌≡◌, ◌≤◌, ◌<◌, ◌-◌, inl, inr, ℕ, List, [], ◌∷◌, ◌++◌, true, length, get_or, take, refl, sym, ◌∙◌, ap, arith}
 use Rattle.std.specs.List.{AllByRecursion}
 use Rattle.std.proofs.lemmas.Bool.{cases_Bool}
-use Rattle.std.proofs.lemmas.List.{take-take, take-append-drop, length_push, length-take}
+use Rattle.std.proofs.lemmas.List.{length_push, length-take}
 use Rattle.ra_link.specs.declared.message.Message.{Message}
 use Rattle.ra_link.specs.declared.message.Message.TheVariants.{Hello, Welcome, Frame, Ack, Old}
 use Rattle.ra_link.specs.Link.{is_open}
@@ -16,6 +16,7 @@ use Rattle.ra_link.proofs.Going.{IsIn, look, IsBook, Says, Tells, Goes}
 use Rattle.ra_link.proofs.GoingTurns.{turn_goes}
 use Rattle.ra_link.proofs.Ready.{Named, Offer, OfEachStart, starts_weaker, starts_stay, starts_more, each_both, cut_less, OwnFitsIn, OwnFits}
 use Rattle.ra_link.proofs.Prefixes.{Way, IsFit, cut_of, same_of, front_in, kept, known_is_there}
+use Rattle.ra_link.proofs.Own.{prefix_of}
 use Rattle.ra_link.proofs.Rounds.{IsSure, event_sure}
 
 -- ---- What b may believe of a is on the disk of a
@@ -190,12 +191,6 @@ all_after all events who up c =
     let p = after_moves all in
     let s : IsSure p = record { known = known all; kept = kept all } in
     run_lasts who p s (all_at who p s up c) events
-
-prefix_of : (xs ys : List (List ℕ)) (kept : ℕ) → xs ≡ take (length xs) ys → length xs ≤ kept → IsPrefixOf xs (take kept ys)
-prefix_of xs ys kept e le =
-    let n = length xs in
-    let disk = take kept ys in
-    (drop n disk, ap (λ zs. zs ++ drop n disk) (e ∙ sym (take-take n kept ys le)) ∙ take-append-drop n disk)
 
 pub taken_lasts : (all : List (Who × Move)) (events : List (Who × Event)) (who : Who) → (this who (after_moves all)).up ≡ true → (this who (after_moves all)).link.ready ≡ true → IsPrefixOf (other who (run (after_moves all) events)).taken (take (this who (run (after_moves all) events)).sent_kept (this who (run (after_moves all) events)).sent)
 taken_lasts all events who up c =

@@ -5,6 +5,7 @@ pub mod Keeping
 pub mod PutBack
 pub mod Ready
 pub mod Prefixes
+pub mod Own
 pub mod Honest
 pub mod NoOld
 pub mod Rounds

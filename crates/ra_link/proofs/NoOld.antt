@@ -12,7 +12,8 @@ use Rattle.ra_link.specs.Pair.{Host, Packet, Event, Turn, Pair, Who, was_used, t
 use Rattle.ra_link.specs.Pair.Who.{One, Two}
 use Rattle.ra_link.specs.PutBack.Move.{Goes as Does}
 use Rattle.ra_link.proofs.Flow.{each_weaker, each_append}
-use Rattle.ra_link.proofs.Honest.{Fits, IsWhole, stays_whole, whole as whole_after}
+use Rattle.ra_link.proofs.Own.{Told}
+use Rattle.ra_link.proofs.Honest.{IsWhole, stays_whole, whole as whole_after}
 use Rattle.ra_link.proofs.PutBack.{IsKnown, Knows, move_known, known as known_after}
 use Rattle.ra_link.proofs.Going.{nonce_known, same_some, none_is_some, look, GoesOn, Says, Tells, Goes}
 use Rattle.ra_link.proofs.GoingTurns.{turn_goes}
@@ -227,7 +228,7 @@ within start most (Ack s other kept) le = λ _. le
 within start most (Old count) le = tt
 
 -- z says it; its book is whole
-answer_new : (a z : Host) (there all : List Packet) → (a.up ≡ true → (count : ℕ) → a.link.pending ≡ Some count → count ≤ a.link.acknowledged) → a.link.acknowledged ≤ z.taken_kept → AllByRecursion (Fits z a) all → (m : Message) (frame : List ℕ) → Tells z there m frame → AnswerIn a z all m
+answer_new : (a z : Host) (there all : List Packet) → (a.up ≡ true → (count : ℕ) → a.link.pending ≡ Some count → count ≤ a.link.acknowledged) → a.link.acknowledged ≤ z.taken_kept → AllByRecursion (Told z) all → (m : Message) (frame : List ℕ) → Tells z there m frame → AnswerIn a z all m
 answer_new a z there all p le f (Hello start question) frame s = tt
 answer_new a z there all p le f (Welcome asker question start kept) frame s = λ up own number opened.
     record {
@@ -239,7 +240,7 @@ answer_new a z there all p le f (Welcome asker question start kept) frame s = λ
               known = omega (arith, s.2);
               over = λ other e.
                   record {
-                    acks = each_weaker (Fits z a) (λ q. AtMostIn other kept q.message) (λ q h. within other kept q.message (omega (arith, h.count, s.2))) all f;
+                    acks = each_weaker (Told z) (λ q. AtMostIn other kept q.message) (λ q h. within other kept q.message (omega (arith, h.count, s.2))) all f;
                     ended = λ _ same. both_ways (is_nonce a.link.adopted start) never (nonce_at a.link.adopted start (e ∙ ap (λ i. Some i) (sym same ∙ sym s.0)));
                   };
             })
@@ -249,7 +250,7 @@ answer_new a z there all p le f (Frame start number) frame s = tt
 answer_new a z there all p le f (Ack start other kept) frame s = tt
 answer_new a z there all p le f (Old count) frame s = tt
 
-clear_in : (a x : Host) (t : Turn) (there back : List Packet) → (a.up ≡ true → Knows x a.link) → Goes x there t → a.link.acknowledged ≤ t.host.taken_kept → AllByRecursion (Fits t.host a) (t.says ++ back) → IsClear a x there back → IsClear a t.host there (t.says ++ back)
+clear_in : (a x : Host) (t : Turn) (there back : List Packet) → (a.up ≡ true → Knows x a.link) → Goes x there t → a.link.acknowledged ≤ t.host.taken_kept → AllByRecursion (Told t.host) (t.says ++ back) → IsClear a x there back → IsClear a t.host there (t.says ++ back)
 clear_in a x t there back k g le f h =
     let z = t.host in
     let all = t.says ++ back in
@@ -281,7 +282,7 @@ event_clear p h One e =
       known = move_known p h.known One (Does e);
       kept = move_kept p h.known h.kept One (Does e);
       one = clear_out p.one p.two t p.to_two p.to_one h.kept.back.named g h.one;
-      two = clear_in p.two p.one t p.to_one p.to_two h.known.from_two.knows g w.back.known w.there.said h.two;
+      two = clear_in p.two p.one t p.to_one p.to_two h.known.from_two.knows g w.known_two w.one.said h.two;
     }
 event_clear p h Two e =
     let t = turn p.to_two p.two e in
@@ -291,7 +292,7 @@ event_clear p h Two e =
       whole = w;
       known = move_known p h.known Two (Does e);
       kept = move_kept p h.known h.kept Two (Does e);
-      one = clear_in p.one p.two t p.to_two p.to_one h.known.from_one.knows g w.there.known w.back.said h.one;
+      one = clear_in p.one p.two t p.to_two p.to_one h.known.from_one.knows g w.known_one w.two.said h.one;
       two = clear_out p.two p.one t p.to_one p.to_two h.kept.there.named g h.two;
     }
 

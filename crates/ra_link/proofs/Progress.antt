@@ -65,11 +65,11 @@ asks_one p h up_one up_two few =
     let e1 : happens p One Connects ≡ p1 = one_acts p up_one Connects ∙ ap (λ t. turned_one p (silent (linked p.one (cond t new l)))) (lt-ltb l.asked greatest few) in
     let e2 : happens p1 One Says_hello ≡ p2 = one_acts p1 up_one Says_hello in
     let e3 : happens p2 Two (Comes 0) ≡ p3 = two_acts p2 up_two (Comes 0) in
-    let kept : m.kept ≡ p.two.taken_kept = (h.two.link up_two).kept_all in
+    let kept : m.kept ≡ p.two.taken_kept = (h.two.book.link up_two).kept_all in
     let answers : is_answer new l.own (l.asked + 1) ≡ true = and_from (l.own == l.own && l.asked + 1 == l.asked + 1) true (and_from (l.own == l.own) (l.asked + 1 == l.asked + 1) (eq-eqb l.own l.own refl) (eq-eqb (l.asked + 1) (l.asked + 1) refl)) refl in
-    let below : is_above new m.kept ≡ false = is_not_above p.one m.kept h.one.link up_one (omega (arith, kept, h.two.taken, h.there.on_disk)) in
+    let below : is_above new m.kept ≡ false = is_not_above p.one m.kept h.one.book.link up_one (omega (arith, kept, h.two.book.taken, h.one.on_disk)) in
     let both : (is_answer new l.own (l.asked + 1) && is_above new m.kept) ≡ false = and_right (is_answer new l.own (l.asked + 1)) (is_above new m.kept) below in
-    let shows : shows_old new m.own m.kept ≡ false = shows_nothing l m.own m.kept (omega (arith, kept, h.there.known)) in
+    let shows : shows_old new m.own m.kept ≡ false = shows_nothing l m.own m.kept (omega (arith, kept, h.known_one)) in
     let e4 : happens p3 One (Comes 0) ≡ p4 =
     one_acts p3 up_one (Comes 0)
     ∙ ap (λ t. turned_one p3 (cond t (ends p3.one) (silent (linked p3.one (hears_welcome new l.own (l.asked + 1) m.own m.kept))))) both
@@ -97,7 +97,7 @@ asks_one p h up_one up_two few =
     subst (Asked p) (sym chain) asked
 
 swap_whole : (p : Pair) → IsWhole p → IsWhole (swap p)
-swap_whole p h = record { one = h.two; two = h.one; never_one = h.never_two; never_two = h.never_one; there = h.back; back = h.there }
+swap_whole p h = record { one = h.two; two = h.one; known_one = h.known_two; known_two = h.known_one }
 
 both_ask : (p : Pair) → IsSure p → IsWhole p → p.one.up ≡ true → p.two.up ≡ true → p.one.link.asked < greatest → p.two.link.asked + 1 < greatest → BothAsked p (run (run p (asks_and_hears One)) (asks_and_hears Two))
 both_ask p sure h up_one up_two few_one few_two =
@@ -126,8 +126,8 @@ both_ask p sure h up_one up_two few_one few_two =
 
 -- no host whose book is whole has ended
 if_whole : (P : Type 0) (p : Pair) → IsWhole p → OneHasEnded p ⊎ P → P
-if_whole P p h (inl (inl e)) = absurd (true≢false (sym e.accused ∙ h.never_one))
-if_whole P p h (inl (inr e)) = absurd (true≢false (sym e.accused ∙ h.never_two))
+if_whole P p h (inl (inl e)) = absurd (true≢false (sym e.accused ∙ h.one.never))
+if_whole P p h (inl (inr e)) = absurd (true≢false (sym e.accused ∙ h.two.never))
 if_whole P p h (inr is) = is
 
 first_round_readies : (p : Pair) → IsSure p → IsWhole p → p.one.up ≡ true → p.two.up ≡ true → p.one.link.asked < greatest → p.two.link.asked + 1 < greatest → IsFirst p (run p first_round)

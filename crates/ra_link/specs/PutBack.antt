@@ -1,5 +1,5 @@
 -- Two hosts whose books may be put back: as long as a host is down, its disk may be replaced by what it was before.
-use Rattle.std.specs.Prelude.{ℕ, List, [], ◌∷◌, take, min, if◌then◌else◌}
+use Rattle.std.specs.Prelude.{ℕ, Bool, true, false, List, [], ◌∷◌, take, min, if◌then◌else◌}
 use Rattle.ra_link.specs.Pair.{Host, Event, Who, Pair, happens, new_pair}
 use Rattle.ra_link.specs.Pair.Who.{One, Two}
 
@@ -26,3 +26,11 @@ run_moves p (m ∷ rest) = run_moves (moves p m.0 m.1) rest
 -- the two hosts after these events, with books put back
 abbrev pub after_moves : List (Who × Move) → Pair
 after_moves all = run_moves new_pair all
+
+-- the book of this host is put back
+abbrev pub is_put_back : Who → Who → Move → Bool
+is_put_back who at (Goes e) = false
+is_put_back One One (Put_back sent taken) = true
+is_put_back One Two (Put_back sent taken) = false
+is_put_back Two One (Put_back sent taken) = false
+is_put_back Two Two (Put_back sent taken) = true

@@ -6,7 +6,7 @@ ghost use Rattle.ra_link.specs.declared.message.Message.{Message};
 ghost use Rattle.ra_link.specs.Link.{greatest};
 ghost use Rattle.ra_link.specs.Progress.{opposite, after_two_rounds, after_finding_rounds};
 ghost use Rattle.ra_link.specs.Progress.{LackFew, IsSettled, OneHasEnded};
-ghost use Rattle.ra_link.specs.PutBack.{Move, after_moves};
+ghost use Rattle.ra_link.specs.PutBack.{Move, after_moves, is_put_back};
 ghost use Rattle.ra_link.specs.Pair.Event.{Replays, Comes};
 ghost use Rattle.ra_link.specs.Pair.{count_in, says_old, IsPrefixOf};
 ghost use Rattle.ra_link.specs.Pair.{Event, Pair, Who, after, happens, run, this, other, said_by};
@@ -99,6 +99,16 @@ pub fn a_ready_host_passes_old_over()
         (this who p).up ≡ true → (this who p).link.ready ≡ true
         → slice_get (said_by (opposite who) p) which ≡ Some (record { message = Message.Old count; frame = frame })
         → happens p who (Comes which) ≡ p }
+{}
+
+/// Only an old book is found out: a host whose own book was never put back never ends by itself, and what the other one
+/// has taken is a prefix of what is on its disk, even if the other's books are put back.
+pub fn a_host_whose_own_book_is_whole_is_not_accused()
+    ensures accused { (all : List (Who × Move)) (who : Who) → All (λ m. is_put_back who m.0 m.1 ≡ false) all
+        → (this who (after_moves all)).accused ≡ false }
+    ensures taken { (all : List (Who × Move)) (who : Who) → All (λ m. is_put_back who m.0 m.1 ≡ false) all
+        → let p = after_moves all in
+        IsPrefixOf (other who p).taken (take (this who p).sent_kept (this who p).sent) }
 {}
 
 /// A book that lacks what was taken is found out: if a host may replay its book, and the other one has taken more
