@@ -63,8 +63,8 @@ pub fn serve_with_notes<T: Threads + Wait + Sync, R: BufRead, W: Write, N: Write
 ) -> u8
     // What is promised of the status, the reader and the writer is the same, whatever becomes of the note.
     ensures { Serves
-        (helps_of ANSWER_HELP.now SIM_HELP.now CLUSTER_HELP.now CHECK_HELP.now DRAW_HELP.now NODE_HELP.now SETTLE_HELP.now
-        SUMMARY_HELP.now STATUS_HELP.now)
+        (helps_of ANSWER_HELP.now SIM_HELP.now CLUSTER_HELP.now CHECK_HELP.now DRAW_HELP.now NODE_HELP.now
+        SETTLE_HELP.now SUMMARY_HELP.now STATUS_HELP.now)
         (map string_bytes arguments.now) (R.remaining reader.old.inner) (R.remaining reader.new.inner)
         (W.contents writer.old.inner) (W.contents writer.new.inner) (reader.new ≡ reader.old) result }
 {

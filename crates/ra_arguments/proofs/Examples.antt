@@ -3,7 +3,7 @@ use Rattle.std.proofs.Common.{◌≡◌, [], ◌∷◌, Some, Ok, Err, codes, re
 use Rattle.clap.specs.Words.{Text}
 use Rattle.clap.proofs.OnLiterals.{clap_on_literals}
 use Rattle.clap.specs.declared.error.kind.ErrorKind.TheVariants as kind
-use Rattle.ra_text.specs.declared.output_kind.OutputKind.TheVariants as prints
+use Rattle.ra_script.specs.declared.output_kind.OutputKind.TheVariants as prints
 use Rattle.ra_schedule.specs.declared.surveys.first_seed.Ending.TheVariants.{Stuck}
 use Rattle.ra_arguments.specs.declared.command_line.PolicyName.TheVariants.{Oldest}
 use Rattle.ra_arguments.specs.declared.command_line.input_kind.InputKind.TheVariants as reads

@@ -3,7 +3,7 @@ use Rattle.std.proofs.Common.{◌≡◌, ◌∙◌, ◌⊎◌, true, not, List, 
 use Rattle.std.specs.List.{list_any}
 use Rattle.std.proofs.lemmas.Bool.{false≢true}
 use Rattle.clap.specs.Words.{Text}
-use Rattle.ra_text.specs.declared.output_kind.OutputKind.TheVariants as prints
+use Rattle.ra_script.specs.declared.output_kind.OutputKind.TheVariants as prints
 use Rattle.ra_arguments.specs.declared.command.Command.{Command}
 use Rattle.ra_arguments.specs.declared.command.Command.TheVariants as command
 use Rattle.ra_arguments.specs.declared.command_line.CommandFault.TheVariants.{Memory, Usage}

@@ -11,7 +11,7 @@ use Rattle.clap.specs.Words.{ReadsOne, Row, Text, first_of, first_value, rows_of
 use Rattle.clap.specs.declared.parser.matches.Found.{Found}
 use Rattle.clap.specs.ValueTests.{is_numeral}
 use Rattle.clap.proofs.WalkLemmas.{both, first_value-rows}
-use Rattle.ra_text.specs.declared.output_kind.OutputKind.{OutputKind}
+use Rattle.ra_script.specs.declared.output_kind.OutputKind.{OutputKind}
 use Rattle.ra_schedule.specs.declared.surveys.first_seed.Ending.{Ending}
 use Rattle.ra_arguments.specs.declared.command_line.PolicyName.{PolicyName}
 use Rattle.ra_arguments.specs.declared.usage_fault.UsageCause.TheVariants.{Find}

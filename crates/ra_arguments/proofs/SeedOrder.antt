@@ -4,7 +4,7 @@ use Rattle.std.specs.Prelude.{⊤, if◌then◌else◌, nat_le, ok_or, unwrap_or
 use Rattle.std.specs.Str.{bytes_eq}
 use Rattle.std.proofs.lemmas.Bool.{leb-true}
 use Rattle.clap.specs.Words.{Row, Text, first_of, subcommand_of}
-use Rattle.ra_text.specs.declared.output_kind.OutputKind.{OutputKind}
+use Rattle.ra_script.specs.declared.output_kind.OutputKind.{OutputKind}
 use Rattle.ra_schedule.specs.declared.surveys.first_seed.Ending.{Ending}
 use Rattle.ra_schedule.specs.declared.surveys.seed_range.SeedRange.{SeedRange}
 use Rattle.ra_text.specs.declared.drawn_part.Part.{Part}

@@ -65,7 +65,8 @@ ending_words = codes "finished" ∷ codes "stuck" ∷ []
 -- ---- commands
 
 abbrev pub answer_options : List Rule
-answer_options = required (option (codes "node") short_numbers) ∷ required (option (codes "nodes") short_numbers) ∷ help_option ∷ []
+answer_options = required (option (codes "node") short_numbers) ∷ required (option (codes "nodes") short_numbers)
+    ∷ help_option ∷ []
 
 -- the options of `sim`, with the words for policies and for ends of runs
 abbrev pub sim_options : (policies endings : WordList) → List Rule
@@ -77,7 +78,8 @@ sim_options policies endings =
     ∷ with_default (option (codes "choices") takes.String) []
     ∷ option (codes "seeds") takes.String
     ∷ option (codes "find") (takes.Names endings)
-    ∷ flag (codes "trace") ∷ flag (codes "as-choices") ∷ flag (codes "shrink") ∷ flag (codes "state") ∷ help_option ∷ []
+    ∷ flag (codes "trace") ∷ flag (codes "sends")
+    ∷ flag (codes "as-choices") ∷ flag (codes "shrink") ∷ flag (codes "state") ∷ help_option ∷ []
 
 abbrev pub cluster_options : List Rule
 cluster_options = flag (codes "trace") ∷ flag (codes "books") ∷ help_option ∷ []

@@ -3,7 +3,8 @@ use Rattle.std.specs.Prelude.{◌≡◌, ℕ, ◌⊎◌, List, [], ◌∷◌, co
 
 -- the argument is `--help` or `-h`, or `--version` or `-V`
 abbrev pub IsHelpArgument : List ℕ → Type 0
-IsHelpArgument argument = (argument ≡ codes "--help") ⊎ (argument ≡ codes "-h") ⊎ (argument ≡ codes "--version") ⊎ (argument ≡ codes "-V")
+IsHelpArgument argument = (argument ≡ codes "--help") ⊎ (argument ≡ codes "-h") ⊎ (argument ≡ codes "--version")
+    ⊎ (argument ≡ codes "-V")
 
 -- the arguments are the program's name and `sim`
 abbrev pub AreSimArguments : (arguments : List (List ℕ)) → Type 0

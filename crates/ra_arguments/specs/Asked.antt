@@ -46,7 +46,8 @@ is_help _ = false
 
 -- the parser found these commands and values, or refused the arguments for one of the causes, or memory ran out
 abbrev pub IsParsed : (arguments : List Text) → Result ArgMatches Error → Type 0
-IsParsed arguments parsed = FailsBy (refusals arguments) parsed × IfOk parsed (λ matches. subcommand_rows_of matches ≡ subcommand_of ra_app arguments)
+IsParsed arguments parsed = FailsBy (refusals arguments) parsed
+    × IfOk parsed (λ matches. subcommand_rows_of matches ≡ subcommand_of ra_app arguments)
 
 -- ---- what they ask for
 
@@ -79,17 +80,18 @@ abbrev pub AsksForTask : (arguments : List Text) → AskedTask → Type 0
 AsksForTask arguments (task.Help text) = AsksForHelp arguments
 AsksForTask arguments asked = (refusals arguments ≡ []) × IsTaskFor (meaning_of arguments) asked
 
--- The arguments ask for nothing: the parser takes them, but they mean nothing; or it refuses them, and not for a text of
--- help; or it refuses them, and no argument is an option that asks for help.
+-- The arguments ask for nothing: the parser takes them, but they mean nothing; or it refuses them, and not for a text
+-- of help; or it refuses them, and no argument is an option that asks for help.
 abbrev pub AsksForNothing : (arguments : List Text) → Type 0
 AsksForNothing arguments = ((refusals arguments ≡ []) × (why : UsageCause) × (meaning_of arguments ≡ Err why))
     ⊎ (list_any (λ kind. not (is_help kind)) (refusals arguments) ≡ true)
     ⊎ ((refusals arguments ≡ [] → ⊥) × (Any IsHelpArgument arguments → ⊥))
 
--- Why they ask for nothing: the parser refuses them with an error of one of the kinds, unless that is a text of help for which
--- an argument asks; or it takes them, and this is the first cause for which they mean nothing.
+-- Why they ask for nothing: the parser refuses them with an error of one of the kinds, unless that is a text of help
+-- for which an argument asks; or it takes them, and this is the first cause for which they mean nothing.
 abbrev pub IsUsageFault : (arguments : List Text) → UsageFault → Type 0
-IsUsageFault arguments (usage.Parser error) = IsAmong (kind_of error) (refusals arguments) × (is_help (kind_of error) ≡ true → Any IsHelpArgument arguments → ⊥)
+IsUsageFault arguments (usage.Parser error) = IsAmong (kind_of error) (refusals arguments)
+    × (is_help (kind_of error) ≡ true → Any IsHelpArgument arguments → ⊥)
 IsUsageFault arguments (usage.Meaning why value) = (refusals arguments ≡ []) × (meaning_of arguments ≡ Err why)
 
 -- the parser's error is why they ask for nothing, or memory ran out
@@ -112,13 +114,14 @@ pub record AreOtherArguments (arguments : List Text) : Type 0 where
   pub no_node : AreNodeArguments arguments → ⊥
   pub no_books : AreSettleArguments arguments → ⊥
 
--- The arguments ask for this command. (That they ask for no other is the law `arguments_ask_for_one_command`.) Of arguments
--- that ask for `node`, for `settle`, or for `sim` with no option, it is never said that memory ran out.
+-- The arguments ask for this command. (That they ask for no other is the law `arguments_ask_for_one_command`.) Of
+-- arguments that ask for `node`, for `settle`, or for `sim` with no option, it is never said that memory ran out.
 abbrev pub Asks : (arguments : List (List ℕ)) → Command → Type 0
 Asks arguments Node = AreNodeArguments arguments
 Asks arguments (Settle asked) = AsksToSettle arguments asked
 Asks arguments (Task asked) = AreOtherArguments arguments × AsksForTask arguments asked
-Asks arguments (Unknown fault) = AreOtherArguments arguments × (AreSimArguments arguments → ⊥) × IsFaultOf arguments fault
+Asks arguments (Unknown fault) = AreOtherArguments arguments × (AreSimArguments arguments → ⊥)
+    × IsFaultOf arguments fault
 
 -- ---- one command
 

@@ -18,7 +18,8 @@ IsFaithful Listed = ⊥
 abbrev pub RunsFaithfully : Task → Type 0
 RunsFaithfully (task.Answer node nodes) = ⊥
 RunsFaithfully (task.Sim policy choices format) = IsFaithful policy
-RunsFaithfully (task.Survey asked) = NoneIsLost asked.faults × NoneIsRepeated asked.faults × (asked.seeds.first ≤ asked.seeds.last)
+RunsFaithfully (task.Survey asked) = NoneIsLost asked.faults × NoneIsRepeated asked.faults
+    × (asked.seeds.first ≤ asked.seeds.last)
 RunsFaithfully task.Check = ⊥
 RunsFaithfully task.CheckMarks = ⊥
 RunsFaithfully (task.Draw kind part) = ⊥

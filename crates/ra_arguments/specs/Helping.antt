@@ -34,7 +34,8 @@ command_in (program ∷ name ∷ rest) = command_called name
 
 -- an argument asks for the summary, or for the whole, or for no help
 abbrev pub summary_by : Text → Option Bool
-summary_by argument = if bytes_eq argument (codes "-h") then Some true else (if bytes_eq argument (codes "--help") then Some false else None)
+summary_by argument = if bytes_eq argument (codes "-h") then Some true
+    else (if bytes_eq argument (codes "--help") then Some false else None)
 
 -- the first argument that asks for help asks for the summary
 abbrev pub asks_summary : (arguments : List Text) → Bool
@@ -88,7 +89,8 @@ help_below helps arguments = option_map_or (help_of helps (asks_summary argument
 
 -- the text is the parser's, and after an empty line this help
 abbrev pub IsHelpText : Helps → (arguments : List Text) → Text → Type 0
-IsHelpText helps arguments text = (above : Text) × (text ≡ ((above ++ codes "\n") ++ help_below helps arguments) ++ codes "\n")
+IsHelpText helps arguments text = (above : Text)
+    × (text ≡ ((above ++ codes "\n") ++ help_below helps arguments) ++ codes "\n")
 
 -- what is shown of an error of the parser of this kind
 abbrev pub IsShown : Helps → (arguments : List Text) → ErrorKind → Text → Type 0
@@ -96,7 +98,8 @@ IsShown helps arguments why text = why ≡ DisplayHelp → IsHelpText helps argu
 
 -- a text of help is the help of the command that the arguments name and of no other, unless it is the version
 abbrev pub ShowsHelp : Helps → (arguments : List Text) → AskedTask → Type 0
-ShowsHelp helps arguments (task.Help text) = IsAmong DisplayVersion (refusals arguments) ⊎ IsHelpText helps arguments (string_bytes text)
+ShowsHelp helps arguments (task.Help text) = IsAmong DisplayVersion (refusals arguments)
+    ⊎ IsHelpText helps arguments (string_bytes text)
 ShowsHelp helps arguments asked = ⊤
 
 abbrev pub ShowsHelpOf : Helps → (arguments : List Text) → Command → Type 0

@@ -7,8 +7,8 @@ use Rattle.clap.specs.ValueTests.{is_numeral}
 use Rattle.clap.specs.Words.{Row, Text, first_of}
 use Rattle.clap.specs.Walk.{one_of}
 use Rattle.ra_schedule.specs.Faults.{FaultRates}
-use Rattle.ra_text.specs.declared.output_kind.OutputKind.{OutputKind}
-use Rattle.ra_text.specs.declared.output_kind.OutputKind.TheVariants as prints
+use Rattle.ra_script.specs.declared.output_kind.OutputKind.{OutputKind}
+use Rattle.ra_script.specs.declared.output_kind.OutputKind.TheVariants as prints
 use Rattle.ra_schedule.specs.declared.surveys.first_seed.Ending.{Ending}
 use Rattle.ra_schedule.specs.declared.surveys.first_seed.Ending.TheVariants.{Finished, Stuck}
 use Rattle.ra_schedule.specs.declared.surveys.seed_range.SeedRange.{SeedRange}
@@ -66,7 +66,8 @@ flag_in name rows = option_map_or (λ text. bytes_eq text (codes "true")) (first
 -- ---- `answer`
 
 abbrev pub answer_in : List Row → Meant Meaning
-answer_in rows = with_value (λ node. with_value (λ nodes. Ok (answer node nodes)) (ok_or (plain_number_in 16 (codes "nodes") rows) cause.Nodes))
+answer_in rows = with_value
+    (λ node. with_value (λ nodes. Ok (answer node nodes)) (ok_or (plain_number_in 16 (codes "nodes") rows) cause.Nodes))
     (ok_or (plain_number_in 16 (codes "node") rows) cause.Node)
 
 -- ---- `sim`
@@ -81,18 +82,21 @@ policy_named seed faults name =
 
 -- at most 400 of 1,000 messages are repeated, and at most all are lost or repeated
 abbrev pub rates : (lose repeat : ℕ) → Option FaultRates
-rates lose repeat = if nat_le repeat 400 && nat_le (lose + repeat) 1000 then Some (record { lose = lose; repeat = repeat }) else None
+rates lose repeat = if nat_le repeat 400 && nat_le (lose + repeat) 1000
+    then Some (record { lose = lose; repeat = repeat }) else None
 
 abbrev pub rates_in : List Row → Option FaultRates
-rates_in rows = option_and_then (λ lose. option_and_then (rates lose) (number_in 16 (codes "repeat") rows)) (number_in 16 (codes "lose") rows)
+rates_in rows = option_and_then (λ lose. option_and_then (rates lose) (number_in 16 (codes "repeat") rows))
+    (number_in 16 (codes "lose") rows)
 
 -- the rates have to be in their range whatever the policy
 abbrev pub policy_in : List Row → Option PolicyName
-policy_in rows = option_and_then (λ seed. option_and_then (λ faults. option_and_then (policy_named seed faults) (first_of (codes "policy") rows)) (rates_in rows))
+policy_in rows = option_and_then (λ seed. option_and_then
+    (λ faults. option_and_then (policy_named seed faults) (first_of (codes "policy") rows)) (rates_in rows))
     (number_in 64 (codes "seed") rows)
 
--- At most one thing is printed in place of the lines. There is no word for a choice that repeats a message, so neither choices
--- nor a shorter run can be printed if some may. Otherwise the last of these options that is given is wrong.
+-- At most one thing is printed in place of the lines. There is no word for a choice that repeats a message, so neither
+-- choices nor a shorter run can be printed if some may. Otherwise the last of these options that is given is wrong.
 abbrev pub printed_by : (may_repeat traces lists shrinks states : Bool) → Meant OutputKind
 printed_by may_repeat false false false false = Ok prints.Lines
 printed_by may_repeat true false false false = Ok prints.Trace
@@ -103,6 +107,12 @@ printed_by may_repeat traces lists shrinks true = Err cause.State
 printed_by may_repeat traces lists true false = Err cause.Shrink
 printed_by may_repeat traces lists false false = Err cause.AsChoices
 
+-- what each step sends can only be printed in a trace
+abbrev pub with_sends : (sends : Bool) → OutputKind → Meant OutputKind
+with_sends false printed = Ok printed
+with_sends true prints.Trace = Ok prints.TraceWithSends
+with_sends true printed = Err cause.Sends
+
 abbrev pub is_faulty : PolicyName → Bool
 is_faulty Oldest = false
 is_faulty Newest = false
@@ -112,10 +122,13 @@ is_faulty Listed = false
 
 -- a run may repeat messages
 abbrev pub repeats_in : PolicyName → List Row → Bool
-repeats_in policy rows = option_map_or (λ repeat. nat_lt 0 repeat && is_faulty policy) (number_in 16 (codes "repeat") rows) false
+repeats_in policy rows = option_map_or (λ repeat. nat_lt 0 repeat && is_faulty policy)
+    (number_in 16 (codes "repeat") rows) false
 
 abbrev pub printed_in : PolicyName → List Row → Meant OutputKind
-printed_in policy rows = printed_by (repeats_in policy rows) (flag_in (codes "trace") rows) (flag_in (codes "as-choices") rows) (flag_in (codes "shrink") rows) (flag_in (codes "state") rows)
+printed_in policy rows = with_value (with_sends (flag_in (codes "sends") rows))
+    (printed_by (repeats_in policy rows) (flag_in (codes "trace") rows) (flag_in (codes "as-choices") rows)
+    (flag_in (codes "shrink") rows) (flag_in (codes "state") rows))
 
 abbrev pub ending_named : Text → Ending
 ending_named name = if bytes_eq name (codes "finished") then Finished else Stuck
@@ -127,13 +140,16 @@ ending_in rows = option_map ending_named (first_of (codes "find") rows)
 abbrev pub cut_at_dots : Text → Option (Text × Text)
 cut_at_dots [] = None
 cut_at_dots (a ∷ []) = None
-cut_at_dots (a ∷ b ∷ rest) = if a == 46 && b == 46 then Some ([], rest) else option_map (λ p. (a ∷ p.0, p.1)) (cut_at_dots (b ∷ rest))
+cut_at_dots (a ∷ b ∷ rest) = if a == 46 && b == 46 then Some ([], rest)
+    else option_map (λ p. (a ∷ p.0, p.1)) (cut_at_dots (b ∷ rest))
 
 abbrev pub seeds_between : (first last : ℕ) → Meant SeedRange
-seeds_between first last = if nat_le first last then Ok (record { first = first; last = last }) else Err cause.SeedsOrder
+seeds_between first last = if nat_le first last then Ok (record { first = first; last = last })
+    else Err cause.SeedsOrder
 
 abbrev pub seeds_of : Text × Text → Meant SeedRange
-seeds_of (first, last) = with_value (λ a. with_value (seeds_between a) (ok_or (numeral 64 last) cause.Seeds)) (ok_or (numeral 64 first) cause.Seeds)
+seeds_of (first, last) = with_value (λ a. with_value (seeds_between a) (ok_or (numeral 64 last) cause.Seeds))
+    (ok_or (numeral 64 first) cause.Seeds)
 
 -- two numbers with two dots between them, the first at most the last
 abbrev pub seeds_in : Text → Meant SeedRange
@@ -148,16 +164,18 @@ chance_of (Faulty seed faults) = Some (Some faults)
 chance_of Listed = None
 
 -- What is looked for among runs, if an end is given. Of the run that is found, the trace is printed unless choices are
--- asked for. The state of a run can't be printed, a finished run can't be shrunk, and without an end nothing of one run can be
--- printed.
+-- asked for. The state of a run can't be printed, a finished run can't be shrunk, and without an end nothing of one run
+-- can be printed.
 abbrev pub search_by : Option Ending → OutputKind → Meant (Option Search)
 search_by None prints.Lines = Ok None
 search_by None prints.Trace = Err cause.OneRun
+search_by None prints.TraceWithSends = Err cause.OneRun
 search_by None prints.Choices = Err cause.OneRun
 search_by None prints.Shrunk = Err cause.OneRun
 search_by None prints.State = Err cause.State
 search_by (Some ending) prints.Lines = Ok (Some (record { ending = ending; format = prints.Trace }))
 search_by (Some ending) prints.Trace = Ok (Some (record { ending = ending; format = prints.Trace }))
+search_by (Some ending) prints.TraceWithSends = Ok (Some (record { ending = ending; format = prints.TraceWithSends }))
 search_by (Some ending) prints.Choices = Ok (Some (record { ending = ending; format = prints.Choices }))
 search_by (Some Finished) prints.Shrunk = Err cause.ShrinkFinished
 search_by (Some Stuck) prints.Shrunk = Ok (Some (record { ending = Stuck; format = prints.Shrunk }))
@@ -178,11 +196,14 @@ run_by policy choices printed (Some ending) = Err cause.Find
 
 -- with `--seeds` a survey of many runs, and otherwise one run
 abbrev pub sim_by : List Row → PolicyName → OutputKind → Option Text → Meant Meaning
-sim_by rows policy printed (Some seeds) = with_value (λ asked. Ok (survey asked)) (survey_by policy seeds (ending_in rows) printed)
-sim_by rows policy printed None = run_by policy (unwrap_or (first_of (codes "choices") rows) []) printed (ending_in rows)
+sim_by rows policy printed (Some seeds) = with_value (λ asked. Ok (survey asked))
+    (survey_by policy seeds (ending_in rows) printed)
+sim_by rows policy printed None =
+    run_by policy (unwrap_or (first_of (codes "choices") rows) []) printed (ending_in rows)
 
 abbrev pub sim_in : List Row → Meant Meaning
-sim_in rows = with_value (λ policy. with_value (λ printed. sim_by rows policy printed (first_of (codes "seeds") rows)) (printed_in policy rows))
+sim_in rows = with_value (λ policy. with_value (λ printed. sim_by rows policy printed (first_of (codes "seeds") rows))
+    (printed_in policy rows))
     (ok_or (policy_in rows) cause.Rates)
 
 -- ---- the other commands
@@ -204,13 +225,14 @@ abbrev pub part_between : (from to : ℕ) → Option Part
 part_between from to = if nat_le 1 from && nat_le from to then Some (record { from = from; to = to }) else None
 
 abbrev pub part_in : List Row → Option Part
-part_in rows = option_and_then (λ from. option_and_then (part_between from) (number_in 64 (codes "to") rows)) (number_in 64 (codes "from") rows)
+part_in rows = option_and_then (λ from. option_and_then (part_between from) (number_in 64 (codes "to") rows))
+    (number_in 64 (codes "from") rows)
 
 abbrev pub draw_in : List Row → Meant Meaning
 draw_in rows = with_value (λ part. Ok (draw (kind_in rows) part)) (ok_or (part_in rows) cause.Part)
 
--- What a command means by the values of its options. What `node` and `settle` mean is said by the arguments themselves: with
--- values that the parser gives them they mean nothing.
+-- What a command means by the values of its options. What `node` and `settle` mean is said by the arguments themselves:
+-- with values that the parser gives them they mean nothing.
 abbrev pub meaning_in : (name : Text) → List Row → Meant Meaning
 meaning_in name rows =
     if bytes_eq name (codes "answer") then answer_in rows

@@ -21,7 +21,8 @@ rule_of_row row = record (new_rule row.name.now) {
 -- these are the options of a command
 abbrev pub AreOfCommand : CommandKind → List Rule → Type 0
 AreOfCommand Answer options = options ≡ answer_options
-AreOfCommand Sim options = (policies endings : WordList) × HasWords policies policy_words × HasWords endings ending_words
+AreOfCommand Sim options = (policies endings : WordList) × HasWords policies policy_words
+    × HasWords endings ending_words
     × (options ≡ sim_options policies endings)
 AreOfCommand Cluster options = options ≡ cluster_options
 AreOfCommand Check options = options ≡ check_options
@@ -31,7 +32,8 @@ AreOfCommand Settle options = options ≡ settle_options
 
 -- the parser's command has the name and the options of the row
 abbrev pub IsOfRow : CommandRow → App → Type 0
-IsOfRow row made = (options : List Rule) × AreOfCommand row.kind options × (made ≡ record { top = command row.name.now options; subs = [] })
+IsOfRow row made = (options : List Rule) × AreOfCommand row.kind options
+    × (made ≡ record { top = command row.name.now options; subs = [] })
 
 -- the kind and the name of a command
 abbrev pub Label : Type 0
@@ -42,7 +44,8 @@ label_of_row row = (row.kind, row.name.now)
 
 -- the kinds and names of all commands, in the order of help
 abbrev pub all_labels : List Label
-all_labels = (Answer, codes "answer") ∷ (Sim, codes "sim") ∷ (Cluster, codes "cluster") ∷ (Check, codes "check") ∷ (Draw, codes "draw") ∷ (Node, codes "node")
+all_labels = (Answer, codes "answer") ∷ (Sim, codes "sim") ∷ (Cluster, codes "cluster") ∷ (Check, codes "check")
+    ∷ (Draw, codes "draw") ∷ (Node, codes "node")
     ∷ (Settle, codes "settle") ∷ []
 
 -- these are commands with these labels, in their order

@@ -21,7 +21,8 @@ AreNoOptions options = (asked : SettleTask) → AreOptionsFor options asked → 
 
 -- the arguments are the program's name, `settle`, and options that ask for this
 abbrev pub AsksToSettle : (arguments : List (List ℕ)) → SettleTask → Type 0
-AsksToSettle arguments asked = (name : List ℕ) × (options : List (List ℕ)) × (arguments ≡ name ∷ codes "settle" ∷ options)
+AsksToSettle arguments asked = (name : List ℕ) × (options : List (List ℕ))
+    × (arguments ≡ name ∷ codes "settle" ∷ options)
     × AreOptionsFor options asked
 
 abbrev pub AreSettleArguments : (arguments : List (List ℕ)) → Type 0

@@ -12,7 +12,7 @@ use crate::command_line::{CommandFault, PolicyName, Task, parse};
 use crate::lone_command::is_command_alone;
 use crate::settle_arguments::{SettleTask, settle_arguments};
 use crate::usage_fault::{ArgumentsFault, UsageFault};
-use ra_text::OutputKind;
+use ra_script::OutputKind;
 use std::alloc::Global;
 
 /// What the arguments of a command line ask for.

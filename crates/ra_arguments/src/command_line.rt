@@ -10,7 +10,7 @@ ghost use Rattle.clap.specs.Words.{HasKind, found_of, kind_of, rows_of, subcomma
 ghost use Rattle.ra_arguments.specs.Arguments.{IsHelpArgument};
 ghost use Rattle.ra_arguments.specs.Asked.{AsksForTask, IsArgumentsFault, IsRefusedBy, IsTaken, IsTaskFor, is_help, meaning_given, refusals};
 ghost use Rattle.ra_arguments.specs.Helping.{IsShown, ShowsHelp, helps_of};
-ghost use Rattle.ra_arguments.specs.Meanings.{answer_in, chance_of as chance_by, cluster_in, draw_in, check, ending_in, flag_in, kind_in, meaning_in, number_in, part_in, plain_number_in, policy_in, policy_named as policy_by_name, printed_by, printed_in, rates_in, repeats_in, search_by, seeds_in, sim_in, survey_by};
+ghost use Rattle.ra_arguments.specs.Meanings.{answer_in, chance_of as chance_by, cluster_in, draw_in, check, ending_in, flag_in, kind_in, meaning_in, number_in, part_in, plain_number_in, policy_in, policy_named as policy_by_name, printed_by, printed_in, rates_in, repeats_in, search_by, seeds_in, sim_in, survey_by, with_sends as printed_with_sends};
 
 use crate::cluster_output::ClusterOutput;
 use crate::command_line::command_rows::matches_of;
@@ -24,7 +24,8 @@ use crate::usage_fault::{ArgumentsFault, UsageCause, UsageFault};
 use clap::error::ErrorKind;
 use clap::{ArgMatches, Error as ParseError};
 use ra_schedule::{Ending, Faults, SeedRange};
-use ra_text::{OutputKind, Part};
+use ra_script::OutputKind;
+use ra_text::Part;
 use std::alloc::{AllocError, Global};
 
 /// Which policy the arguments name.
@@ -218,6 +219,21 @@ fn flagged_format(
     }
 }
 
+/// Returns what is to be printed if what each step sends is, too. It does not allocate.
+///
+/// # Errors
+///
+/// `Sends`: that is asked for, and a trace is not.
+fn with_sends(sends: bool, format: OutputKind) -> Result<OutputKind, UsageCause>
+    ensures { result ≡ printed_with_sends sends format }
+{
+    match (sends, format) {
+        (false, _) => Ok(format),
+        (true, OutputKind::Trace) => Ok(OutputKind::TraceWithSends),
+        (true, _) => Err(UsageCause::Sends),
+    }
+}
+
 /// Returns whether a run under this policy may repeat messages. It does not allocate.
 fn may_repeat(policy: &PolicyName, sim: &ArgMatches) -> bool
     ensures { result ≡ repeats_in policy.now (rows_of (found_of sim.now)) }
@@ -232,17 +248,18 @@ fn may_repeat(policy: &PolicyName, sim: &ArgMatches) -> bool
 ///
 /// # Errors
 ///
-/// Those of `flagged_format`.
+/// Those of `flagged_format`, and then those of `with_sends`.
 fn format_of(policy: &PolicyName, sim: &ArgMatches) -> Result<OutputKind, UsageCause>
     ensures { result ≡ printed_in policy.now (rows_of (found_of sim.now)) }
 {
-    flagged_format(
+    let format = flagged_format(
         may_repeat(policy, sim),
         has_flag(sim, "trace"),
         has_flag(sim, "as-choices"),
         has_flag(sim, "shrink"),
         has_flag(sim, "state"),
-    )
+    )?;
+    with_sends(has_flag(sim, "sends"), format)
 }
 
 /// Returns the end that the arguments look for, if they do. It does not allocate.
@@ -282,7 +299,7 @@ fn search_of(ending: Option<Ending>, format: OutputKind) -> Result<Option<Search
     match (ending, format) {
         (_, OutputKind::State) => Err(UsageCause::State),
         (Some(Ending::Finished), OutputKind::Shrunk) => Err(UsageCause::ShrinkFinished),
-        (Some(ending), OutputKind::Choices | OutputKind::Shrunk) => {
+        (Some(ending), OutputKind::Choices | OutputKind::Shrunk | OutputKind::TraceWithSends) => {
             Ok(Some(Search { ending, format }))
         }
         (Some(ending), _) => Ok(Some(Search {

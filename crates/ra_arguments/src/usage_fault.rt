@@ -18,6 +18,8 @@ pub enum UsageCause {
     Shrink,
     /// `--as-choices`, and another option that says what is printed, or perhaps repeats.
     AsChoices,
+    /// `--sends` without `--trace`.
+    Sends,
     /// `--find` without `--seeds`.
     Find,
     /// `--seeds` under a policy that draws nothing.

@@ -20,7 +20,7 @@ use Rattle.ra_schedule.specs.declared.error.ChoicesError.{ChoicesError}
 use Rattle.ra_schedule.specs.declared.error.ChoicesError.TheVariants.{Choice, Memory}
 use Rattle.ra_script.specs.declared.error.PerformError.TheVariants.{Drive}
 use Rattle.ra_script.specs.declared.error.PerformError.TheVariants as perform
-use Rattle.ra_text.specs.declared.output_kind.OutputKind.{OutputKind}
+use Rattle.ra_script.specs.declared.output_kind.OutputKind.{OutputKind}
 use Rattle.ra_schedule.specs.ChoicesText.{choices_of}
 use Rattle.ra_script.specs.declared.error.ScriptError.{ScriptError}
 use Rattle.ra_script.specs.Finding.{IsFirstUnwritten, NoneEndsSo}

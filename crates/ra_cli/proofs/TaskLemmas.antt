@@ -7,7 +7,7 @@ use Rattle.ra_schedule.specs.ChoicesText.{choices_of}
 use Rattle.ra_schedule.specs.declared.error.ChoicesError.{ChoicesError}
 use Rattle.ra_schedule.specs.declared.error.ChoicesError.TheVariants.{Choice, Memory}
 use Rattle.ra_schedule.specs.declared.choice.Policy.{Policy}
-use Rattle.ra_text.specs.declared.output_kind.OutputKind.{OutputKind}
+use Rattle.ra_script.specs.declared.output_kind.OutputKind.{OutputKind}
 use Rattle.ra_script.specs.Performed.{IsPerformedAs}
 use Rattle.ra_draw.specs.declared.error.DrawError.{DrawError}
 use Rattle.ra_draw.specs.declared.error.DrawError.TheVariants as draw

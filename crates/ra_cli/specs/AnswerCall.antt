@@ -21,10 +21,12 @@ IsOfInput why = (why ≢ fault.Read) × (why ≢ fault.Write)
 
 -- What was read and written, or the cause of a refusal. The caller says what it means that the reader and the writer
 -- stay as they were: two of the propositions are these.
-pub record ComesTo {T : Type 0} (node nodes : ℕ) (old new before after : Option (List ℕ)) (same_reader same_writer : Type 0)
+pub record ComesTo {T : Type 0} (node nodes : ℕ) (old new before after : Option (List ℕ))
+    (same_reader same_writer : Type 0)
     (result : Result T AnswerError) : Type 0 where
   -- what is read is a line of digits to its end, and what is written is the answer to it and nothing else
-  pub ok : OnOk result (IfSome old (λ input. (output : List ℕ) × IsAnswered node nodes input output × Consumes old new input
+  pub ok : OnOk result (IfSome old
+      (λ input. (output : List ℕ) × IsAnswered node nodes input output × Consumes old new input
       × Appends before after output))
   -- if the reader tells nothing of its input, a refusal still has a cause, and the node is one of the nodes
   pub cause : IfErr result (λ why. (input : List ℕ) × Refuses node nodes input why)

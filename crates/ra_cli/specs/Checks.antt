@@ -37,10 +37,10 @@ abbrev pub is_valid : Verdict → Bool
 is_valid (Valid requests messages) = true
 is_valid (Invalid line cause) = false
 
--- The outcome of a check, for any kind of text. A kind has its verdicts on an input, `is_right` says which of them say that the
--- input is of the kind, and `lines_of` has the lines of each. If the input is known, it has a verdict, right or not, and
--- exactly the lines of the verdict were written. It was read from its beginning, and to its end if the verdict is right. If
--- it is not known, a text with such a verdict still exists.
+-- The outcome of a check, for any kind of text. A kind has its verdicts on an input, `is_right` says which of them say
+-- that the input is of the kind, and `lines_of` has the lines of each. If the input is known, it has a verdict, right
+-- or not, and exactly the lines of the verdict were written. It was read from its beginning, and to its end if the
+-- verdict is right. If it is not known, a text with such a verdict still exists.
 abbrev pub Judges : {V : Type 0} → (IsVerdictOn : List ℕ → V → Type 0) → (is_right : V → Bool) → (lines_of : V → List ℕ)
     → (old new before after : Option (List ℕ)) → Bool → Type 0
 Judges {V} IsVerdictOn is_right lines_of old new before after right =
@@ -84,8 +84,8 @@ ChecksMarks = Judges IsMarksVerdict is_run marks_verdict_text
 
 -- ---- Refusals
 
--- Why a check of a trace is refused. Of a reader that failed, what was read shows no verdict. Of a text that is too long,
--- 16,777,216 bytes of it show none, and one more came.
+-- Why a check of a trace is refused. Of a reader that failed, what was read shows no verdict. Of a text that is too
+-- long, 16,777,216 bytes of it show none, and one more came.
 abbrev pub RefusesCheck : (old new : Option (List ℕ)) → TraceError → Type 0
 RefusesCheck old new fault.Read = ReadsOn 16777216 old new
 RefusesCheck old new fault.Limit = PassesLimit 16777216 old new

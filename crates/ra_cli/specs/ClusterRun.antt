@@ -29,7 +29,8 @@ use Rattle.ra_cli.specs.declared.error.RunScriptError.TheVariants as fault
 
 -- the output is the text of these books, one after the other, each as it is written
 abbrev pub AreWrittenBooks : List BookState → (output : List ℕ) → Type 0
-AreWrittenBooks books output = (written : List (List (List ℕ))) × AllZip IsWrittenBook written books × (output ≡ flat_map lines_text written)
+AreWrittenBooks books output = (written : List (List (List ℕ))) × AllZip IsWrittenBook written books
+    × (output ≡ flat_map lines_text written)
 
 -- what the output says of a run of nodes with numbers that begin at 0: the lines of its report, its trace, or these
 -- books, which settle into it
@@ -38,10 +39,10 @@ SaysRun Lines nodes books moves report output = output ≡ report_text report
 SaysRun Trace nodes books moves report output = IsTrace nodes 0 moves output
 SaysRun Books nodes books moves report output = AreWrittenBooks books output
 
--- The output shows books that threads may have recorded of the script, or the one run into which they settle. `IsRecord` tells
--- all that is promised of both. Among it, the marks of each client are those of its operations, in order. Nothing waits or is
--- queued, and no message is lost or under way. Each lock of the script was requested, and exactly two messages were sent for each
--- request and other node.
+-- The output shows books that threads may have recorded of the script, or the one run into which they settle.
+-- `IsRecord` tells all that is promised of both. Among it, the marks of each client are those of its operations, in
+-- order. Nothing waits or is queued, and no message is lost or under way. Each lock of the script was requested, and
+-- exactly two messages were sent for each request and other node.
 pub record SaysScript (printed : ClusterOutput) (script : ScriptState) (output : List ℕ) : Type 0 where
   pub books : List BookState
   pub settled : Settled
@@ -50,14 +51,16 @@ pub record SaysScript (printed : ClusterOutput) (script : ScriptState) (output :
 
 -- the input is the text of a script, and the output shows such a run of it
 abbrev pub IsClusterRun : ClusterOutput → (input output : List ℕ) → Type 0
-IsClusterRun printed input output = (script : ScriptState) × (script_of input ≡ Ok script) × SaysScript printed script output
+IsClusterRun printed input output = (script : ScriptState) × (script_of input ≡ Ok script)
+    × SaysScript printed script output
 
--- If the input is known, it is the text of a script, and it was read to its end. Exactly what is printed of one such run of the
--- script was written: of books that threads may have recorded (`IsRecord`), not certainly of those that they did record. If the
--- input is not known, such a text still exists.
+-- If the input is known, it is the text of a script, and it was read to its end. Exactly what is printed of one such
+-- run of the script was written: of books that threads may have recorded (`IsRecord`), not certainly of those that they
+-- did record. If the input is not known, such a text still exists.
 abbrev pub RunsCluster : ClusterOutput → (old new before after : Option (List ℕ)) → Type 0
 RunsCluster printed old new before after =
-    IfSome old (λ input. (output : List ℕ) × IsClusterRun printed input output × Consumes old new input × Appends before after output)
+    IfSome old (λ input. (output : List ℕ) × IsClusterRun printed input output × Consumes old new input
+    × Appends before after output)
     × ((input output : List ℕ) × IsClusterRun printed input output × Appends before after output)
 
 -- ---- Refusals
@@ -66,8 +69,8 @@ RunsCluster printed old new before after =
 abbrev pub MayRun : ScriptState → Type 0
 MayRun script = (IsOutOfOrder script → ⊥) × (IsUnreleased script → ⊥)
 
--- which scripts each refusal is for. After the first two it is said only that threads may run the script: the script does not
--- decide whether they bring it to its end. `Memory` is treated elsewhere.
+-- which scripts each refusal is for. After the first two it is said only that threads may run the script: the script
+-- does not decide whether they bring it to its end. `Memory` is treated elsewhere.
 abbrev pub StopsAt : ScriptState → ClusterError → Type 0
 StopsAt script cluster.OutOfOrder = IsOutOfOrder script
 StopsAt script cluster.Unreleased = (IsOutOfOrder script → ⊥) × IsUnreleased script
@@ -78,9 +81,9 @@ StopsAt script cluster.Lost = MayRun script
 StopsAt script cluster.UnderWay = MayRun script
 StopsAt script cluster.Memory = ⊥
 
--- When each refusal may come. For `Script`, `OutOfOrder` and `Unreleased`, the input has this cause and no earlier one. For
--- the other refusals of threads, it is a script that they may run. `Choice` may not come. `Memory` and faults of the reader
--- come from outside.
+-- When each refusal may come. For `Script`, `OutOfOrder` and `Unreleased`, the input has this cause and no earlier one.
+-- For the other refusals of threads, it is a script that they may run. `Choice` may not come. `Memory` and faults of
+-- the reader come from outside.
 abbrev pub RefusesRun : List ℕ → RunScriptError → Type 0
 RefusesRun input fault.Read = Unit {0}
 RefusesRun input (fault.Script why) = (why ≢ text.Memory) × (script_of input ≡ Err why)

@@ -22,10 +22,11 @@ DoesCommand Node old new before after status = ServesNode old new before after s
 DoesCommand (Settle asked) old new before after status = ServesSettle asked old new before after status
 DoesCommand (Task (task.Help text)) old new before after status = Writes (string_bytes text) 0 before after status
 DoesCommand (Task asked) old new before after status = Does asked old new before after status
-DoesCommand (Unknown fault) old new before after status = Writes (refused_line (command_word fault)) 2 before after status
+DoesCommand (Unknown fault) old new before after status =
+    Writes (refused_line (command_word fault)) 2 before after status
 
--- The command reads nothing: a text of help, or an unknown command. Nor does `answer` if the node is not one of the nodes,
--- nor `sim` if the choices are no list of choices.
+-- The command reads nothing: a text of help, or an unknown command. Nor does `answer` if the node is not one of the
+-- nodes, nor `sim` if the choices are no list of choices.
 abbrev pub ReadsNothing : Command → Type 0
 ReadsNothing Node = ⊥
 ReadsNothing (Settle asked) = ⊥
@@ -39,9 +40,10 @@ ReadsNothing (Unknown fault) = ⊤
 abbrev pub NeedsNoThreads : Command → Type 0
 NeedsNoThreads asked = (printed : ClusterOutput) → asked ≢ Task (task.Cluster printed)
 
--- What the program did when it was run with these arguments and ended with this status: what they ask for. If that is help, it is
--- the help of the command that they name. `Untouched` says that nothing was read.
-pub record Serves (helps : Helps) (arguments : List (List ℕ)) (old new before after : Option (List ℕ)) (Untouched : Type 0) (status : ℕ) : Type 0 where
+-- What the program did when it was run with these arguments and ended with this status: what they ask for. If that is
+-- help, it is the help of the command that they name. `Untouched` says that nothing was read.
+pub record Serves (helps : Helps) (arguments : List (List ℕ)) (old new before after : Option (List ℕ))
+    (Untouched : Type 0) (status : ℕ) : Type 0 where
   pub asked : Command
   pub asks : Asks arguments asked
   pub help : ShowsHelpOf helps arguments asked

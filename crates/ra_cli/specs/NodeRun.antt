@@ -20,7 +20,8 @@ IsTold before after answers (Ok done) = Appends before after answers
 IsTold before after answers (Err Line) = Appends before after answers
 IsTold before after answers (Err Read) =
     (said rest : List ℕ) × (codes "refused Read\n" ≡ said ++ rest) × Appends before after (answers ++ said)
-IsTold before after answers (Err Write) = (prefix rest : List ℕ) × (answers ≡ prefix ++ rest) × Appends before after prefix
+IsTold before after answers (Err Write) = (prefix rest : List ℕ) × (answers ≡ prefix ++ rest)
+    × Appends before after prefix
 
 -- The answers that are owed to what was read were written, and this is the status. `old` and `new` are what is left in
 -- the reader before and after it, and `before` and `after` what the writer contains, if they tell.

@@ -2,7 +2,7 @@
 use Rattle.std.specs.Prelude.{ℕ, List, Bool, Option, IfSome}
 use Rattle.std.specs.Io.KnownBytes.{Consumes, Appends}
 use Rattle.ra_schedule.specs.declared.choice.Policy.{Policy}
-use Rattle.ra_text.specs.declared.output_kind.OutputKind.{OutputKind}
+use Rattle.ra_script.specs.declared.output_kind.OutputKind.{OutputKind}
 use Rattle.ra_script.specs.Performed.{IsPerformedAs}
 
 -- If the input is known, it is a script that was performed under this policy, finished or not. It was read to its end,

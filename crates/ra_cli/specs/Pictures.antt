@@ -28,7 +28,8 @@ abbrev pub SaysWhyNot : InputKind → (input text : List ℕ) → Type 0
 SaysWhyNot Trace input text =
     (line : ℕ) × (why : Cause) × IsVerdict input (Invalid line why) × (text ≡ verdict_text (Invalid line why))
 SaysWhyNot Marks input text =
-    (line : ℕ) × (why : MarkCause) × IsMarksVerdict input (log.Invalid line why) × (text ≡ marks_verdict_text (log.Invalid line why))
+    (line : ℕ) × (why : MarkCause) × IsMarksVerdict input (log.Invalid line why)
+    × (text ≡ marks_verdict_text (log.Invalid line why))
 
 -- ---- What is read and written
 
@@ -37,19 +38,22 @@ abbrev pub IsNotDrawn : InputKind → (old new before after : Option (List ℕ))
 IsNotDrawn kind old new before after = (input text : List ℕ) × IsInput old new input × SaysWhyNot kind input text
     × Appends before after text
 
--- the text is what is printed of the input: a picture of the part if it is of this kind and 1 to 4,096 of its lines are in the
--- part, and the line that says why it is not of this kind otherwise
+-- the text is what is printed of the input: a picture of the part if it is of this kind and 1 to 4,096 of its lines are
+-- in the part, and the line that says why it is not of this kind otherwise
 abbrev pub IsDrawing : InputKind → Part → (input text : List ℕ) → Type 0
 IsDrawing kind part input text =
     (IsOfKind kind input × IsDrawable part input × IsPicture part input text) ⊎ SaysWhyNot kind input text
 
--- Why a part is not drawn. Before it is judged, the whole input is read, of which fewer bytes came than may be drawn, or
--- more. If the part is the cause, the input is of this kind, and none of its lines is in the part, or more than 4,096 are.
+-- Why a part is not drawn. Before it is judged, the whole input is read, of which fewer bytes came than may be drawn,
+-- or more. If the part is the cause, the input is of this kind, and none of its lines is in the part, or more than
+-- 4,096 are.
 abbrev pub RefusesPart : InputKind → Part → (old new : Option (List ℕ)) → DrawError → Type 0
 RefusesPart kind part old new Read = StopsBefore 16777217 old new
 RefusesPart kind part old new Limit = (taken : List ℕ) × (length taken ≡ 16777217) × Consumes old new taken
-RefusesPart kind part old new (NoLines lines) = (input : List ℕ) × IsInput old new input × IsOfKind kind input × IsUnfit part input (NoLines lines)
-RefusesPart kind part old new TooLong = (input : List ℕ) × IsInput old new input × IsOfKind kind input × IsUnfit part input TooLong
+RefusesPart kind part old new (NoLines lines) = (input : List ℕ) × IsInput old new input × IsOfKind kind input
+    × IsUnfit part input (NoLines lines)
+RefusesPart kind part old new TooLong = (input : List ℕ) × IsInput old new input × IsOfKind kind input
+    × IsUnfit part input TooLong
 RefusesPart kind part old new Memory = Unit {0}
 RefusesPart kind part old new Write = Unit {0}
 
@@ -60,16 +64,20 @@ abbrev pub Shows : InputKind → Part → (input : List ℕ) → (before after :
 Shows kind part input before after = IsOfKind kind input × IsDrawable part input
     × (picture : List ℕ) × IsPicture part input picture × Appends before after picture
 
--- the outcome of an input: a picture, or a denial that says why there is none. `Untouched` says that nothing was written.
-abbrev pub ShowsOrDenies : InputKind → Part → (input : List ℕ) → (before after : Option (List ℕ)) → (Untouched : Type 0) → Option Denial → Type 0
+-- the outcome of an input: a picture, or a denial that says why there is none. `Untouched` says that nothing was
+-- written.
+abbrev pub ShowsOrDenies : InputKind → Part → (input : List ℕ) → (before after : Option (List ℕ)) → (Untouched : Type 0)
+    → Option Denial → Type 0
 ShowsOrDenies kind part input before after Untouched None = Shows kind part input before after
-ShowsOrDenies kind part input before after Untouched (Some denial) = SaysWhyNot kind input (string_bytes denial.line) × Untouched
+ShowsOrDenies kind part input before after Untouched (Some denial) = SaysWhyNot kind input (string_bytes denial.line)
+    × Untouched
 
 -- The outcome of an attempt to draw a part. `old` and `new` are what is left in the reader before and after it, and
 -- `before` and `after` what the writer contains, if they tell.
 pub record Attempts (kind : InputKind) (part : Part) (old new before after : Option (List ℕ)) (Untouched : Type 0)
     (result : Result (Option Denial) DrawError) : Type 0 where
-  pub ok : IfOk result (λ denial. (input : List ℕ) × IsInput old new input × ShowsOrDenies kind part input before after Untouched denial)
+  pub ok : IfOk result
+      (λ denial. (input : List ℕ) × IsInput old new input × ShowsOrDenies kind part input before after Untouched denial)
   pub unwritten : IfErr result (λ fault. fault ≢ Write → Untouched)
   pub failed : IsErrOf result Read → StopsBefore 16777217 old new
   pub limit : IsErrOf result Limit → (taken : List ℕ) × (length taken ≡ 16777217) × Consumes old new taken

@@ -27,7 +27,8 @@ Prints Trace text output = (moves : List Move) × (map (λ move. move.step) move
 
 -- the input is a text of books that settle, and this is printed of their run
 abbrev pub Settles : SettleTask → (input output : List ℕ) → Type 0
-Settles asked input output = (text : SettledText) × IsSettledText asked.repeats input text × Prints asked.printed text output
+Settles asked input output = (text : SettledText) × IsSettledText asked.repeats input text
+    × Prints asked.printed text output
 
 -- the word for why a text does not settle
 abbrev pub text_cause_word : TextCause → List ℕ
@@ -47,7 +48,8 @@ Contradicts asked input output =
     (number : ℕ) × (why : TextCause) × IsWrong asked.repeats input number why × (output ≡ unsettled_line number why)
 
 -- what an input that was read leads to, by the status
-pub record TellsSettled (asked : SettleTask) (input : List ℕ) (before after : Option (List ℕ)) (status : ℕ) : Type 0 where
+pub record TellsSettled (asked : SettleTask) (input : List ℕ) (before after : Option (List ℕ))
+    (status : ℕ) : Type 0 where
   pub range : status ≤ 3
   pub done : status ≡ 0 → (output : List ℕ) × Settles asked input output × Appends before after output
   pub unfinished : status ≡ 3 → (output : List ℕ) × Contradicts asked input output × Appends before after output
@@ -68,8 +70,8 @@ abbrev pub of_unread : ReadFault → SettleFault
 of_unread read.Read = fault.Read
 of_unread read.Memory = fault.Memory
 
--- why books are not settled: a text is too long if it has more than 1,073,741,824 bytes, and the reader fails only before
--- it gave more than that
+-- why books are not settled: a text is too long if it has more than 1,073,741,824 bytes, and the reader fails only
+-- before it gave more than that
 abbrev pub RefusesBooks : (old new : Option (List ℕ)) → SettleFault → Type 0
 RefusesBooks old new fault.Read = StopsBefore 1073741825 old new
 RefusesBooks old new fault.Limit = (input : List ℕ) × Consumes old new input × (2 ^ 30 < length input)
@@ -82,12 +84,15 @@ RefusesBooks old new fault.Memory = Unit {0}
 pub record ServesSettle (asked : SettleTask) (old new before after : Option (List ℕ)) (status : ℕ) : Type 0 where
   pub range : status ≤ 3
   pub done : status ≡ 0
-      → (input : List ℕ) × (output : List ℕ) × ReadsBooks old new input × Settles asked input output × Appends before after output
+      → (input : List ℕ) × (output : List ℕ) × ReadsBooks old new input × Settles asked input output
+      × Appends before after output
   pub unfinished : status ≡ 3
-      → (input : List ℕ) × (output : List ℕ) × ReadsBooks old new input × Contradicts asked input output × Appends before after output
+      → (input : List ℕ) × (output : List ℕ) × ReadsBooks old new input × Contradicts asked input output
+      × Appends before after output
   pub refused : status ≡ 2 → Appends before after (refused_line (codes "Memory"))
       ⊎ (Appends before after (refused_line (codes "Limit")) × RefusesBooks old new fault.Limit)
   pub broken : status ≡ 1 → (RefusesBooks old new fault.Read × Appends before after (codes "refused Read\n"))
       ⊎ ((prefix : List ℕ) × (rest : List ℕ) × (rest ≢ []) × Appends before after prefix
-      × (((input : List ℕ) × ReadsBooks old new input × (Settles asked input (prefix ++ rest) ⊎ Contradicts asked input (prefix ++ rest)))
+      × (((input : List ℕ) × ReadsBooks old new input
+      × (Settles asked input (prefix ++ rest) ⊎ Contradicts asked input (prefix ++ rest)))
       ⊎ ((why : SettleFault) × RefusesBooks old new why × (prefix ++ rest ≡ refused_line (settle_word why)))))

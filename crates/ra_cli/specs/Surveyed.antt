@@ -20,7 +20,8 @@ use Rattle.ra_arguments.specs.declared.command_line.search.SurveyTask.{SurveyTas
 -- the line of an end: how many seeds came to it, and the first of them; no line if no seed did
 abbrev pub tally_line : List ℕ → Option Tally → List ℕ
 tally_line word None = []
-tally_line word (Some tally) = word ++ field (decimal tally.seeds) ++ field (codes "first") ++ field (decimal tally.first) ++ codes "\n"
+tally_line word (Some tally) =
+    word ++ field (decimal tally.seeds) ++ field (codes "first") ++ field (decimal tally.first) ++ codes "\n"
 
 -- the line of a figure: the least and the greatest value; no line if the figure does not exist
 abbrev pub spread_line : List ℕ → Option Spread → List ℕ
@@ -57,8 +58,8 @@ abbrev pub none_found_is_success : Ending → Bool
 none_found_is_success Finished = false
 none_found_is_success Stuck = true
 
--- The output shows, in the format of the search, the run of the input's script by the first of the seeds that brings
--- it to the end that is looked for, and `finished` says whether that run finished. Or no seed does, and the output is the
+-- The output shows, in the format of the search, the run of the input's script by the first of the seeds that brings it
+-- to the end that is looked for, and `finished` says whether that run finished. Or no seed does, and the output is the
 -- line `none`.
 abbrev pub IsFound : SurveyTask → Search → (input output : List ℕ) → (finished : Bool) → Type 0
 IsFound asked search input output finished =
@@ -70,7 +71,8 @@ IsFound asked search input output finished =
 -- to that end
 abbrev pub IsTold : SurveyTask → (input output : List ℕ) → (finished : Bool) → Type 0
 IsTold asked input output finished =
-    MatchOption asked.find (IsSurveyed asked input output finished) (λ search. IsFound asked search input output finished)
+    MatchOption asked.find (IsSurveyed asked input output finished)
+    (λ search. IsFound asked search input output finished)
 
 -- the choices of the run that is looked for are to be printed, and one of them has no word
 abbrev pub FoundHasNoWords : SurveyTask → (input : List ℕ) → Type 0
@@ -83,7 +85,8 @@ FoundHasNoWords asked input = MatchOption asked.find ⊥
 -- was written. If the input is not known, such an input still exists.
 abbrev pub SurveysBy : SurveyTask → (old new before after : Option (List ℕ)) → Bool → Type 0
 SurveysBy asked old new before after finished =
-    IfSome old (λ input. (output : List ℕ) × IsTold asked input output finished × Consumes old new input × Appends before after output)
+    IfSome old (λ input. (output : List ℕ) × IsTold asked input output finished × Consumes old new input
+    × Appends before after output)
     × ((input output : List ℕ) × IsTold asked input output finished × Appends before after output)
 
 -- when each refusal may come: its cause applies. `Cluster` may not come, since no threads are used.

@@ -10,7 +10,7 @@ use Rattle.ra_schedule.specs.declared.error.ChoicesError.{ChoicesError}
 use Rattle.ra_schedule.specs.declared.error.ChoicesError.TheVariants.{Choice}
 use Rattle.ra_script.specs.declared.error.PerformError.{PerformError}
 use Rattle.ra_script.specs.declared.error.PerformError.TheVariants as perform
-use Rattle.ra_text.specs.declared.output_kind.OutputKind.{OutputKind}
+use Rattle.ra_script.specs.declared.output_kind.OutputKind.{OutputKind}
 use Rattle.ra_script.specs.Performed.{IsPerformedAs, RefusesAs}
 use Rattle.ra_trace.specs.declared.error.TraceError.{TraceError}
 use Rattle.ra_trace.specs.declared.checker.verdict.Verdict.{Verdict}
@@ -48,9 +48,10 @@ abbrev pub AnswersAs : (node nodes : ℕ) → (old new before after : Option (Li
 AnswersAs node nodes old new before after = IsMember node nodes × IfSome old (λ input. (output : List ℕ)
     × IsAnswered node nodes input output × Consumes old new input × Appends before after output)
 
--- the choices are a list of choices, and the input was performed under the policy of this name, with these choices if it
--- is `listed`, and written in this format
-abbrev pub PerformsNamed : PolicyName → (choices : List ℕ) → OutputKind → (old new before after : Option (List ℕ)) → Bool → Type 0
+-- the choices are a list of choices, and the input was performed under the policy of this name, with these choices if
+-- it is `listed`, and written in this format
+abbrev pub PerformsNamed : PolicyName → (choices : List ℕ) → OutputKind → (old new before after : Option (List ℕ))
+    → Bool → Type 0
 PerformsNamed name choices format old new before after finished = IsSome (choices_of choices)
     × (policy : Policy) × IsNamed name choices policy × PerformsBy policy format old new before after finished
 
@@ -63,7 +64,8 @@ DrawsPart kind part old new before after = (input : List ℕ) × IsInput old new
 -- status 0: what the task asks for was done
 abbrev pub IsDoneBy : Task → (old new before after : Option (List ℕ)) → Type 0
 IsDoneBy (task.Answer node nodes) old new before after = AnswersAs node nodes old new before after
-IsDoneBy (task.Sim policy choices format) old new before after = PerformsNamed policy choices.now format old new before after true
+IsDoneBy (task.Sim policy choices format) old new before after =
+    PerformsNamed policy choices.now format old new before after true
 IsDoneBy (task.Survey survey) old new before after = SurveysBy survey old new before after true
 IsDoneBy task.Check old new before after = Checks old new before after true
 IsDoneBy task.CheckMarks old new before after = ChecksMarks old new before after true
@@ -74,7 +76,8 @@ IsDoneBy (task.Help text) old new before after = ⊥
 -- status 3: a run ended with something left to do, or the input is not the trace or the log that it should be
 abbrev pub IsLeftBy : Task → (old new before after : Option (List ℕ)) → Type 0
 IsLeftBy (task.Answer node nodes) old new before after = ⊥
-IsLeftBy (task.Sim policy choices format) old new before after = PerformsNamed policy choices.now format old new before after false
+IsLeftBy (task.Sim policy choices format) old new before after =
+    PerformsNamed policy choices.now format old new before after false
 IsLeftBy (task.Survey survey) old new before after = SurveysBy survey old new before after false
 IsLeftBy task.Check old new before after = Checks old new before after false
 IsLeftBy task.CheckMarks old new before after = ChecksMarks old new before after false
@@ -86,10 +89,12 @@ IsLeftBy (task.Help text) old new before after = ⊥
 abbrev pub IsPrintedBy : Task → (input text : List ℕ) → Type 0
 IsPrintedBy (task.Answer node nodes) input text = IsAnswered node nodes input text
 IsPrintedBy (task.Sim name choices format) input text =
-    (policy : Policy) × (finished : Bool) × IsNamed name choices.now policy × IsPerformedAs format policy input text finished
+    (policy : Policy) × (finished : Bool) × IsNamed name choices.now policy
+    × IsPerformedAs format policy input text finished
 IsPrintedBy (task.Survey survey) input text = (finished : Bool) × IsTold survey input text finished
 IsPrintedBy task.Check input text = (verdict : Verdict) × IsVerdict input verdict × (text ≡ verdict_text verdict)
-IsPrintedBy task.CheckMarks input text = (verdict : MarksVerdict) × IsMarksVerdict input verdict × (text ≡ marks_verdict_text verdict)
+IsPrintedBy task.CheckMarks input text = (verdict : MarksVerdict) × IsMarksVerdict input verdict
+    × (text ≡ marks_verdict_text verdict)
 IsPrintedBy (task.Draw kind part) input text = IsDrawing kind part input text
 IsPrintedBy (task.Cluster printed) input text = IsClusterRun printed input text
 IsPrintedBy (task.Help shown) input text = ⊥
@@ -97,7 +102,8 @@ IsPrintedBy (task.Help shown) input text = ⊥
 -- ---- Status 2
 
 -- why a run under a policy is refused: the choices are not a list of choices, or the run under it is refused
-abbrev pub RefusesNamed : PolicyName → (choices : List ℕ) → OutputKind → (old new : Option (List ℕ)) → CommandRefusal → Type 0
+abbrev pub RefusesNamed : PolicyName → (choices : List ℕ) → OutputKind → (old new : Option (List ℕ)) → CommandRefusal
+    → Type 0
 RefusesNamed name choices format old new why =
     ((fault : ChoicesError) × (why ≡ refusal.Choices fault) × (fault ≡ Choice → choices_of choices ≡ None))
     ⊎ ((fault : PerformError) × (why ≡ refusal.Perform fault) × (fault ≡ perform.Read → StopsBefore 65537 old new)
@@ -112,14 +118,16 @@ IsCauseFor (task.Sim policy choices format) old new why = RefusesNamed policy ch
 IsCauseFor (task.Survey survey) old new why = (fault : RunScriptError) × (why ≡ refusal.Survey fault)
     × (fault ≡ run.Read → StopsBefore 65537 old new) × IfSome old (λ input. RefusesSurvey survey input fault)
 IsCauseFor task.Check old new why = (fault : TraceError) × (why ≡ refusal.Check fault) × RefusesCheck old new fault
-IsCauseFor task.CheckMarks old new why = (fault : TraceError) × (why ≡ refusal.Check fault) × RefusesCheckOfMarks old new fault
-IsCauseFor (task.Draw kind part) old new why = (fault : DrawError) × (why ≡ refusal.Draw fault) × RefusesPart kind part old new fault
+IsCauseFor task.CheckMarks old new why = (fault : TraceError) × (why ≡ refusal.Check fault)
+    × RefusesCheckOfMarks old new fault
+IsCauseFor (task.Draw kind part) old new why = (fault : DrawError) × (why ≡ refusal.Draw fault)
+    × RefusesPart kind part old new fault
 IsCauseFor (task.Cluster printed) old new why = (fault : RunScriptError) × (why ≡ refusal.Cluster fault)
     × (fault ≡ run.Read → StopsBefore 65537 old new) × IfSome old (λ input. RefusesRun input fault)
 IsCauseFor (task.Help text) old new why = ⊥
 
--- status 2: the line of a refusal was written and nothing else, for such a cause, which is not that the reader or the writer
--- failed
+-- status 2: the line of a refusal was written and nothing else, for such a cause, which is not that the reader or the
+-- writer failed
 abbrev pub IsRefusedBy : Task → (old new before after : Option (List ℕ)) → Type 0
 IsRefusedBy asked old new before after = (why : CommandRefusal) × (IsOfReader why → ⊥) × (IsOfWriter why → ⊥)
     × Appends before after (refused_line (word_of why)) × IsCauseFor asked old new why

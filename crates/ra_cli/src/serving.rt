@@ -83,8 +83,8 @@ pub fn serve<T: Threads + Wait + Sync, R: BufRead, W: Write>(
     writer: &mut W,
 ) -> u8
     ensures { Serves
-        (helps_of ANSWER_HELP.now SIM_HELP.now CLUSTER_HELP.now CHECK_HELP.now DRAW_HELP.now NODE_HELP.now SETTLE_HELP.now
-        SUMMARY_HELP.now STATUS_HELP.now)
+        (helps_of ANSWER_HELP.now SIM_HELP.now CLUSTER_HELP.now CHECK_HELP.now DRAW_HELP.now NODE_HELP.now
+        SETTLE_HELP.now SUMMARY_HELP.now STATUS_HELP.now)
         (map string_bytes arguments.now) (R.remaining reader.old) (R.remaining reader.new)
         (W.contents writer.old) (W.contents writer.new) (reader.new ≡ reader.old) result }
 {

@@ -59,20 +59,24 @@ abbrev pub Draws : Part → List ℕ → (before after : Option (List ℕ)) → 
 Draws part input before after (Valid requests messages) = DrawsPicture part input before after
 Draws part input before after (Invalid line why) = Appends before after []
 
--- what is drawn if this is the verdict on the input as a mark log: a picture if its marks are a run of the lock table, and
--- otherwise nothing
+-- what is drawn if this is the verdict on the input as a mark log: a picture if its marks are a run of the lock table,
+-- and otherwise nothing
 abbrev pub DrawsMarks : Part → List ℕ → (before after : Option (List ℕ)) → MarksVerdict → Type 0
 DrawsMarks part input before after (log.Valid requests grants) = DrawsPicture part input before after
 DrawsMarks part input before after (log.Invalid line why) = Appends before after []
 
--- What came of an attempt to draw a part of an input, for any kind of text. A kind has its verdicts on an input, `valid_of` and
--- `invalid_of` make those on one that is of the kind and on one that is not, and `Shows` says what is drawn for each. `old` and
--- `new` are what is left in the reader before and after the attempt, and `before` and `after` what the writer contains, if they
--- tell. `Untouched` says that the writer is as before, and `kept` is the text that the caller has afterwards.
-pub record DrawsPart {V Why : Type 0} (IsVerdictOn : List ℕ → V → Type 0) (valid_of : ℕ → ℕ → V) (invalid_of : ℕ → Why → V)
-    (Shows : Part → List ℕ → Option (List ℕ) → Option (List ℕ) → V → Type 0) (part : Part) (old new before after : Option (List ℕ))
+-- What came of an attempt to draw a part of an input, for any kind of text. A kind has its verdicts on an input,
+-- `valid_of` and `invalid_of` make those on one that is of the kind and on one that is not, and `Shows` says what is
+-- drawn for each. `old` and `new` are what is left in the reader before and after the attempt, and `before` and `after`
+-- what the writer contains, if they tell. `Untouched` says that the writer is as before, and `kept` is the text that
+-- the caller has afterwards.
+pub record DrawsPart {V Why : Type 0} (IsVerdictOn : List ℕ → V → Type 0) (valid_of : ℕ → ℕ → V)
+    (invalid_of : ℕ → Why → V)
+    (Shows : Part → List ℕ → Option (List ℕ) → Option (List ℕ) → V → Type 0) (part : Part)
+    (old new before after : Option (List ℕ))
     (Untouched : Type 0) (kept : List ℕ) (result : Result V DrawError) : Type 0 where
-  -- the verdict is that of the whole input; a picture is written exactly if the input is of the kind, and nothing else is
+  -- the verdict is that of the whole input; a picture is written exactly if the input is of the kind, and nothing else
+  -- is
   pub ok : IfOk result (λ verdict. (input : List ℕ) × IsInput old new input × IsVerdictOn input verdict
       × Shows part input before after verdict)
   pub invalid : (line : ℕ) (why : Why) → result ≡ Ok (invalid_of line why) → Untouched
@@ -93,9 +97,11 @@ pub record DrawsPart {V Why : Type 0} (IsVerdictOn : List ℕ → V → Type 0) 
       × Appends before after prefix
 
 -- what came of an attempt to draw a trace
-abbrev pub DrawsTrace : Part → (old new before after : Option (List ℕ)) → (Untouched : Type 0) → (kept : List ℕ) → Result Verdict DrawError → Type 0
+abbrev pub DrawsTrace : Part → (old new before after : Option (List ℕ)) → (Untouched : Type 0) → (kept : List ℕ)
+    → Result Verdict DrawError → Type 0
 DrawsTrace = DrawsPart IsVerdict Valid Invalid Draws
 
 -- what came of an attempt to draw a mark log
-abbrev pub DrawsLog : Part → (old new before after : Option (List ℕ)) → (Untouched : Type 0) → (kept : List ℕ) → Result MarksVerdict DrawError → Type 0
+abbrev pub DrawsLog : Part → (old new before after : Option (List ℕ)) → (Untouched : Type 0) → (kept : List ℕ)
+    → Result MarksVerdict DrawError → Type 0
 DrawsLog = DrawsPart IsMarksVerdict log.Valid log.Invalid DrawsMarks

@@ -18,7 +18,8 @@ IsUnread old new Memory = (taken : List ℕ) × (length taken ≤ 16777217) × C
 IsUnread old new Write = ⊥
 
 -- what is so if this is why a picture was not written, or not all of it; it is never about a reader
-abbrev pub IsUnwritten : Part → (text : List ℕ) → (before after : Option (List ℕ)) → (Untouched : Type 0) → DrawError → Type 0
+abbrev pub IsUnwritten : Part → (text : List ℕ) → (before after : Option (List ℕ)) → (Untouched : Type 0) → DrawError
+    → Type 0
 IsUnwritten part text before after Untouched Read = ⊥
 IsUnwritten part text before after Untouched Limit = ⊥
 IsUnwritten part text before after Untouched (NoLines lines) =

@@ -170,6 +170,7 @@ fn cause_text(cause: UsageCause) -> Option<&'static str> {
             "--shrink cannot be used with --trace, --as-choices or --state, nor with --policy faulty unless --repeat is 0",
         UsageCause::AsChoices =>
             "--as-choices cannot be used with --trace, nor with --policy faulty unless --repeat is 0",
+        UsageCause::Sends => "--sends requires --trace",
         UsageCause::Find => "--find requires --seeds",
         UsageCause::SeedsPolicy => "--seeds requires --policy seeded or faulty",
         UsageCause::OneRun => "--seeds takes --trace, --as-choices or --shrink only with --find",

@@ -10,7 +10,7 @@ use Rattle.ra_schedule.specs.Schedule.{RepeatsNothing}
 use Rattle.ra_schedule.specs.Script.{ScriptState}
 use Rattle.ra_script.specs.declared.error.PerformError.{PerformError}
 use Rattle.ra_script.specs.declared.error.PerformError.TheVariants.{Drive}
-use Rattle.ra_text.specs.declared.output_kind.OutputKind.{OutputKind}
+use Rattle.ra_script.specs.declared.output_kind.OutputKind.{OutputKind}
 use Rattle.ra_script.specs.Performed.{IsPerformedAs, RefusesAs, IsOrderly, BringsToEnd}
 use Rattle.ra_script.proofs.ReadScripts.{ok_same}
 

@@ -11,8 +11,8 @@ use Rattle.ra_text.specs.declared.error.ReadFault.{ReadFault}
 use Rattle.ra_text.specs.declared.error.ReadFault.TheVariants as read
 use Rattle.ra_schedule.specs.declared.choice.Policy.{Policy}
 use Rattle.ra_schedule.specs.Script.{ScriptState}
-use Rattle.ra_text.specs.declared.output_kind.OutputKind.{OutputKind}
-use Rattle.ra_text.specs.declared.output_kind.OutputKind.TheVariants.{Lines, Trace, Choices, Shrunk, State}
+use Rattle.ra_script.specs.declared.output_kind.OutputKind.{OutputKind}
+use Rattle.ra_script.specs.declared.output_kind.OutputKind.TheVariants.{Lines, Trace, TraceWithSends, Choices, Shrunk, State}
 use Rattle.ra_script.specs.declared.error.ScriptError.{ScriptError}
 use Rattle.ra_script.specs.declared.error.ScriptError.TheVariants.{Limit, Toml, Shape}
 use Rattle.ra_script.specs.declared.error.ScriptError.TheVariants as script
@@ -52,6 +52,7 @@ too_long format policy taken input (fault.Script why) early t i h = (h.0, long_i
 too_long format policy taken input (fault.Drive cause) early t i (script, moves, is, follows, stops) = absurd (no_long_script taken script t is)
 too_long Lines policy taken input fault.Choice early t i h = absurd h
 too_long Trace policy taken input fault.Choice early t i h = absurd h
+too_long TraceWithSends policy taken input fault.Choice early t i h = absurd h
 too_long State policy taken input fault.Choice early t i h = absurd h
 too_long Choices policy taken input fault.Choice early t i h = absurd (no_long_script taken h.script t h.script_is)
 too_long Shrunk policy taken input fault.Choice early t i h = absurd (no_long_script taken h.script t h.script_is)

@@ -9,7 +9,7 @@ use Rattle.ra_schedule.specs.Performing.{ChoosesItself}
 use Rattle.ra_schedule.specs.Schedule.{RepeatsNothing}
 use Rattle.ra_script.specs.declared.error.PerformError.{PerformError}
 use Rattle.ra_script.specs.declared.error.PerformError.TheVariants.{Read, Drive, Write}
-use Rattle.ra_text.specs.declared.output_kind.OutputKind.{OutputKind}
+use Rattle.ra_script.specs.declared.output_kind.OutputKind.{OutputKind}
 use Rattle.ra_script.specs.Performed.{IsPerformedAs, RefusesAs, PerformsScript}
 use Rattle.ra_script.proofs.BroughtToEnd.{by_ok, by_err, no_err, same_fault}
 use Rattle.ra_script.proofs.Inputs.{of_known, not_nil}

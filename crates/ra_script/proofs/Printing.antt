@@ -10,7 +10,7 @@ use Rattle.ra_world.specs.Traffic.{Move}
 use Rattle.ra_schedule.specs.declared.error.ChoicesError.{ChoicesError}
 use Rattle.ra_schedule.specs.declared.error.ChoicesError.TheVariants as choices
 use Rattle.ra_script.specs.declared.error.PerformError.TheVariants.{Drive, Memory}
-use Rattle.ra_text.specs.declared.output_kind.OutputKind.{OutputKind}
+use Rattle.ra_script.specs.declared.output_kind.OutputKind.{OutputKind}
 use Rattle.ra_script.specs.declared.performing.printed.Printed.{Printed}
 use Rattle.ra_script.specs.Faults.{of_choices, of_drive}
 use Rattle.ra_script.specs.Performed.{IsPerformedAs, RefusesAs, turn_limit}

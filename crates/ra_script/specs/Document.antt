@@ -31,7 +31,8 @@ array_at key table = option_and_then as_array (get_member key table)
 -- what the items of an array are read as, if each can be read
 abbrev pub each_of : {T : Type 0} → (Data → Option T) → Items → Option (List T)
 each_of read no_items = Some []
-each_of read (item value rest) = option_and_then (λ first. option_map (λ others. first ∷ others) (each_of read rest)) (read value)
+each_of read (item value rest) = option_and_then (λ first. option_map (λ others. first ∷ others) (each_of read rest))
+    (read value)
 
 -- the strings of an array, if it contains nothing else
 abbrev pub strings_of : Items → Option (List (List ℕ))
@@ -58,14 +59,16 @@ clients_of items = each_of client_of items
 
 -- the document of an integer and an array of clients, if these exist
 abbrev pub document_from : Option ℤ → Option Items → Option Document
-document_from (Some nodes) (Some tables) = option_map (λ clients. record { nodes = nodes; clients = clients }) (clients_of tables)
+document_from (Some nodes) (Some tables) = option_map (λ clients. record { nodes = nodes; clients = clients })
+    (clients_of tables)
 document_from (Some nodes) None = None
 document_from None tables = None
 
 -- the document of a table, if it has its two keys and no other
 abbrev pub document_of : Members → Option Document
 document_of table =
-    if key_count table == 2 then document_from (integer_at (codes "nodes") table) (array_at (codes "client") table) else None
+    if key_count table == 2 then document_from (integer_at (codes "nodes") table) (array_at (codes "client") table)
+    else None
 
 -- the texts to which these references point
 abbrev pub texts : List (Bor (List ℕ)) → List (List ℕ)

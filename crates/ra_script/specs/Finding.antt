@@ -5,13 +5,14 @@ use Rattle.ra_schedule.specs.Faults.{FaultRates}
 use Rattle.ra_schedule.specs.Finding.{IsFirstSeed}
 use Rattle.ra_schedule.specs.Script.{ScriptState}
 use Rattle.ra_schedule.specs.Survey.{chance}
-use Rattle.ra_text.specs.declared.output_kind.OutputKind.{OutputKind}
+use Rattle.ra_script.specs.declared.output_kind.OutputKind.{OutputKind}
 use Rattle.ra_script.specs.Performed.{IsPerformedAs, Unwritten, turn_limit}
 use Rattle.ra_script.specs.ScriptText.{script_of}
 
 -- the text shows in this format the run of the script of the input by the least of these seeds that brings it to this
 -- end; `finished` says whether that run is finished
-pub record IsFirstRun (format : OutputKind) (faults : Option FaultRates) (ending : Ending) (first last : ℕ) (input text : List ℕ) (finished : Bool) : Type 0 where
+pub record IsFirstRun (format : OutputKind) (faults : Option FaultRates) (ending : Ending) (first last : ℕ)
+    (input text : List ℕ) (finished : Bool) : Type 0 where
   pub script : ScriptState
   pub script_is : script_of input ≡ Ok script
   pub seed : ℕ
@@ -26,7 +27,8 @@ pub record NoneEndsSo (faults : Option FaultRates) (ending : Ending) (first last
 
 -- the choices of the run by the least of these seeds that brings the script of the input to this end are to be written,
 -- and one of them has no word
-pub record IsFirstUnwritten (format : OutputKind) (faults : Option FaultRates) (ending : Ending) (first last : ℕ) (input : List ℕ) : Type 0 where
+pub record IsFirstUnwritten (format : OutputKind) (faults : Option FaultRates) (ending : Ending) (first last : ℕ)
+    (input : List ℕ) : Type 0 where
   pub script : ScriptState
   pub script_is : script_of input ≡ Ok script
   pub seed : ℕ

@@ -17,9 +17,10 @@ use Rattle.ra_schedule.specs.Script.{ScriptState}
 use Rattle.ra_schedule.specs.Shrinking.{IsStuckRun, IsLeastOf}
 use Rattle.ra_schedule.specs.Schedule.{Follows, Ends, Stops, RepeatsNothing}
 use Rattle.ra_schedule.specs.StateText.{ShowsState}
-use Rattle.ra_trace.specs.TraceText.{IsTrace}
-use Rattle.ra_text.specs.declared.output_kind.OutputKind.{OutputKind}
-use Rattle.ra_text.specs.declared.output_kind.OutputKind.TheVariants.{Lines, Trace, Choices, Shrunk, State}
+use Rattle.ra_trace.specs.declared.line.version.Version.TheVariants.{ThreeWithSends}
+use Rattle.ra_trace.specs.TraceText.{IsTrace, IsTraceIn}
+use Rattle.ra_script.specs.declared.output_kind.OutputKind.{OutputKind}
+use Rattle.ra_script.specs.declared.output_kind.OutputKind.TheVariants.{Lines, Trace, TraceWithSends, Choices, Shrunk, State}
 use Rattle.ra_schedule.specs.ChoicesText.{Lists}
 use Rattle.ra_script.specs.declared.error.ScriptError.TheVariants as script_fault
 use Rattle.ra_script.specs.declared.error.PerformError.{PerformError}
@@ -39,25 +40,28 @@ pub record SaysChoices (policy : Policy) (script : ScriptState) (moves : List Mo
   pub lists : Lists text choices.items
   pub line : output ≡ text ++ codes "\n"
 
--- the output is one line: the words of the least list of choices that was found if this run is stuck, and otherwise `none`
+-- the output is one line: the words of the least list of choices that was found if this run is stuck, and otherwise
+-- `none`
 abbrev pub SaysShrunk : ScriptState → List Move → List ℕ → Type 0
 SaysShrunk script moves output =
     ((choices : Listing Choice) × (text : List ℕ) × IsStuckRun script moves × IsLeastOf script moves choices
     × Lists text choices.items × (output ≡ text ++ codes "\n"))
     ⊎ ((IsStuckRun script moves → ⊥) × (output ≡ codes "none\n"))
 
--- what the output says of a policy's run of a script: the lines of its report, its trace, its choices, what it is shrunk
--- to, or the state at its end
+-- what the output says of a policy's run of a script: the lines of its report, its trace without or with the messages
+-- sent, its choices, what it is shrunk to, or the state at its end
 abbrev pub Says : OutputKind → Policy → ScriptState → List Move → Report → List ℕ → Type 0
 Says Lines policy script moves report output = output ≡ report_text report
 Says Trace policy script moves report output = IsTrace script.nodes 0 moves output
+Says TraceWithSends policy script moves report output = IsTraceIn ThreeWithSends script.nodes 0 moves output
 Says Choices policy script moves report output = SaysChoices policy script moves output
 Says Shrunk policy script moves report output = SaysShrunk script moves output
 Says State policy script moves report output = ShowsState script moves output
 
 -- The output shows in this format the run of the script that the input is, under this policy, which was followed to
 -- its end. `finished` says whether this run is finished.
-pub record IsPerformedAs (format : OutputKind) (policy : Policy) (input output : List ℕ) (finished : Bool) : Type 0 where
+pub record IsPerformedAs (format : OutputKind) (policy : Policy) (input output : List ℕ)
+    (finished : Bool) : Type 0 where
   pub script : ScriptState
   pub script_is : script_of input ≡ Ok script
   pub moves : List Move
@@ -78,6 +82,7 @@ pub record HasNoWords (policy : Policy) (input : List ℕ) : Type 0 where
 abbrev pub Unwritten : OutputKind → Policy → List ℕ → Type 0
 Unwritten Lines policy input = ⊥
 Unwritten Trace policy input = ⊥
+Unwritten TraceWithSends policy input = ⊥
 Unwritten Choices policy input = HasNoWords policy input
 Unwritten Shrunk policy input = HasNoWords policy input
 Unwritten State policy input = ⊥
@@ -87,7 +92,8 @@ Unwritten State policy input = ⊥
 abbrev pub RefusesAs : OutputKind → Policy → List ℕ → PerformError → Type 0
 RefusesAs format policy input fault.Read = Unit {0}
 RefusesAs format policy input (fault.Script why) = (why ≢ script_fault.Memory) × (script_of input ≡ Err why)
-RefusesAs format policy input (fault.Drive cause) = (script : ScriptState) × (moves : List Move) × (script_of input ≡ Ok script)
+RefusesAs format policy input (fault.Drive cause) = (script : ScriptState) × (moves : List Move)
+    × (script_of input ≡ Ok script)
     × Follows script policy moves × Stops script policy turn_limit moves cause
 RefusesAs format policy input fault.Choice = Unwritten format policy input
 RefusesAs format policy input fault.Memory = Unit {0}
@@ -108,18 +114,22 @@ pub record IsOrderly (input : List ℕ) : Type 0 where
 -- if there is one, is that its run is finished.
 pub record BringsToEnd (policy : Policy) (known : Option (List ℕ)) (result : Result Bool PerformError) : Type 0 where
   pub below_limit : RepeatsNothing policy → IsErrOf result (fault.Drive TurnLimit) → ⊥
-  pub every_turn : RepeatsNothing policy → ChoosesItself policy → (cause : DriveError) → IsErrOf result (fault.Drive cause) → ⊥
-  pub finished : LosesNothing policy → ChoosesItself policy → IfSome known (λ input. IsOrderly input → IfOk result IsTrue)
+  pub every_turn : RepeatsNothing policy → ChoosesItself policy → (cause : DriveError)
+      → IsErrOf result (fault.Drive cause) → ⊥
+  pub finished : LosesNothing policy → ChoosesItself policy
+      → IfSome known (λ input. IsOrderly input → IfOk result IsTrue)
 
 -- ---- The answer
 
 -- The answer of each of the three, which write the run of a script in this format. `old` and `new` are what is left in
--- the reader before and after it, and `before` and `after` what the writer contains, if they tell. `Untouched` says that
--- the writer is as before.
-pub record PerformsScript (format : OutputKind) (policy : Policy) (old new before after : Option (List ℕ)) (Untouched : Type 0)
+-- the reader before and after it, and `before` and `after` what the writer contains, if they tell. `Untouched` says
+-- that the writer is as before.
+pub record PerformsScript (format : OutputKind) (policy : Policy) (old new before after : Option (List ℕ))
+    (Untouched : Type 0)
     (result : Result Bool PerformError) : Type 0 where
   -- what is read is a script to its end, and what is written is what comes of it and nothing else
-  pub ok : IfOk result (λ finished. IfSome old (λ input. (output : List ℕ) × IsPerformedAs format policy input output finished
+  pub ok : IfOk result
+      (λ finished. IfSome old (λ input. (output : List ℕ) × IsPerformedAs format policy input output finished
       × Consumes old new input × Appends before after output))
   pub refused : IfErr result (λ why. IfSome old (λ input. RefusesAs format policy input why))
   -- if the reader tells nothing of its input, this still holds of some input

@@ -4,14 +4,15 @@ use Rattle.ra_schedule.specs.declared.choice.Policy.{Policy}
 use Rattle.ra_schedule.specs.Script.{ScriptState}
 use Rattle.ra_script.specs.declared.error.PerformError.{PerformError}
 use Rattle.ra_script.specs.declared.error.PerformError.TheVariants.{Read, Write}
-use Rattle.ra_text.specs.declared.output_kind.OutputKind.{OutputKind}
+use Rattle.ra_script.specs.declared.output_kind.OutputKind.{OutputKind}
 use Rattle.ra_script.specs.declared.performing.printed.Printed.{Printed}
 use Rattle.ra_script.specs.Performed.{IsPerformedAs, RefusesAs}
 use Rattle.ra_script.specs.ScriptText.{script_of}
 
 -- The answer of each function that drives a cluster through a script by this policy, and returns what is written of the
 -- run in this format. The script is that of some input.
-pub record PrintsRun (format : OutputKind) (policy : Policy) (script : ScriptState) (result : Result Printed PerformError) : Type 0 where
+pub record PrintsRun (format : OutputKind) (policy : Policy) (script : ScriptState)
+    (result : Result Printed PerformError) : Type 0 where
   pub ok : (input : List ℕ) → script_of input ≡ Ok script
       → IfOk result (λ printed. IsPerformedAs format policy input (string_bytes printed.text) printed.finished)
   pub err : (input : List ℕ) → script_of input ≡ Ok script → IfErr result (RefusesAs format policy input)

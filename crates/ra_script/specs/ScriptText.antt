@@ -60,12 +60,14 @@ script_ops strings = if nat_lt 1024 (length strings) then Err fault.Limit else o
 
 -- a client of a script, from its table
 abbrev pub script_client : ClientTable → Result ScriptClient ScriptError
-script_client client = result_and_then (λ ops. Ok (record { node = natural client.node; ops = ops })) (script_ops client.ops)
+script_client client = result_and_then (λ ops. Ok (record { node = natural client.node; ops = ops }))
+    (script_ops client.ops)
 
 -- the clients that are done, and after them the clients of these tables
 abbrev pub clients_after : List ScriptClient → List ClientTable → Result (List ScriptClient) ScriptError
 clients_after done [] = Ok done
-clients_after done (client ∷ clients) = result_and_then (λ c. clients_after (done ++ c ∷ []) clients) (script_client client)
+clients_after done (client ∷ clients) = result_and_then (λ c. clients_after (done ++ c ∷ []) clients)
+    (script_client client)
 
 -- whether there are 1 to 64 clients, each at one of the nodes
 abbrev pub are_placed : ℕ → List ClientTable → Bool
@@ -77,7 +79,8 @@ abbrev pub script_in : Document → Result ScriptState ScriptError
 script_in document =
     if not (is_up_to 64 document.nodes) then Err fault.Nodes
     else if not (are_placed (natural document.nodes) document.clients) then Err fault.Clients
-    else result_and_then (λ clients. Ok (record { nodes = natural document.nodes; clients = clients })) (clients_after [] document.clients)
+    else result_and_then (λ clients. Ok (record { nodes = natural document.nodes; clients = clients }))
+    (clients_after [] document.clients)
 
 -- the parser's tree of a text
 abbrev pub tree_of : List ℕ → Result Members ScriptError
@@ -92,4 +95,5 @@ IsText text = (length text ≤ 65536) × (is_utf8 text ≡ true)
 
 -- the script of a text
 abbrev pub script_of : List ℕ → Result ScriptState ScriptError
-script_of text = result_and_then script_in (result_and_then (λ tree. ok_or (document_of tree) fault.Shape) (tree_of text))
+script_of text = result_and_then script_in (result_and_then (λ tree. ok_or (document_of tree) fault.Shape)
+    (tree_of text))

@@ -10,7 +10,7 @@ ghost use Rattle.ra_schedule.specs.Schedule.{Follows, RepeatsNothing};
 ghost use Rattle.ra_schedule.specs.Script.{ScriptState, IsScript};
 ghost use Rattle.ra_schedule.specs.ChoicesText.{HasText};
 ghost use Rattle.ra_script.specs.declared.error.PerformError.{PerformError};
-ghost use Rattle.ra_text.specs.declared.output_kind.OutputKind.{OutputKind};
+ghost use Rattle.ra_script.specs.declared.output_kind.OutputKind.{OutputKind};
 ghost use Rattle.ra_script.specs.Performed.{RefusesAs};
 ghost use Rattle.ra_script.specs.ScriptText.{script_of};
 

@@ -5,11 +5,13 @@
 
 mod error;
 mod laws;
+mod output_kind;
 mod performing;
 mod script_reading;
 
 pub use error::{PerformError, ScriptError};
 pub use laws::{choices_have_words_unless_messages_are_repeated, read_scripts_come_to_rest};
+pub use output_kind::OutputKind;
 pub use performing::find_run::find_run;
 pub use performing::printed::Printed;
 pub use performing::{MAX_TURNS, perform, perform_as, perform_trace};

@@ -2,7 +2,7 @@ pub mod find_run;
 pub mod printed;
 
 ghost use Rattle.std.specs.Prelude.{◌≡◌, ◌⊎◌, ℕ, List, All, MatchOption, ◌++◌, string_bytes, codes, IfOk, IfErr};
-ghost use Rattle.ra_text.specs.declared.output_kind.OutputKind.{OutputKind};
+ghost use Rattle.ra_script.specs.declared.output_kind.OutputKind.{OutputKind};
 ghost use Rattle.ra_schedule.specs.ChoicesText.{HasText, Lists};
 ghost use Rattle.ra_script.specs.Performed.{PerformsScript};
 ghost use Rattle.ra_script.specs.Printing.{PrintsRun};
@@ -10,12 +10,12 @@ ghost use Rattle.ra_script.specs.Printing.{PrintsRun};
 use crate::laws::{choices_have_words_unless_messages_are_repeated, read_scripts_come_to_rest};
 use crate::performing::printed::Printed;
 use crate::script_reading::MAX_SCRIPT;
-use crate::{PerformError, read_script};
+use crate::{OutputKind, PerformError, read_script};
 use ra_schedule::{
     Choices, ChoicesError, Policy, Script, Shown, choices_text, drive, show, shrink, summarize,
 };
-use ra_text::{OutputKind, read_up_to, write_out};
-use ra_trace::trace_text;
+use ra_text::{read_up_to, write_out};
+use ra_trace::{trace_text, trace_text_with_sends};
 use ra_world::{report_text, runs_are_determined};
 use std::alloc::Global;
 use std::io::{Read, Write};
@@ -58,6 +58,33 @@ fn trace_of(alloc: Global, policy: &Policy, script: &Script) -> Result<Printed, 
     runs_are_determined();
     let recording = drive(alloc, script, policy, MAX_TURNS)?;
     let text = trace_text(alloc, script.nodes(), 0, &recording.steps);
+    let finished = recording.finished;
+    // By a call, and before any exit, since to drop each of its parts there is long to prove.
+    drop(recording);
+    match text {
+        Ok(text) => Ok(Printed { text, finished }),
+        // The steps are a run, so only `Memory` can come.
+        Err(_) => Err(PerformError::Memory),
+    }
+}
+
+/// Drives a cluster through a script by a policy, and returns the trace of its run, with the messages that each step
+/// sends.
+///
+/// # Errors
+///
+/// Those of `trace_of`.
+fn trace_with_sends_of(
+    alloc: Global,
+    policy: &Policy,
+    script: &Script,
+) -> Result<Printed, PerformError>
+    ensures { PrintsRun OutputKind.TraceWithSends policy.now script.now result }
+{
+    // For the proof: the run whose trace is written is the one that was recorded, as both have these steps.
+    runs_are_determined();
+    let recording = drive(alloc, script, policy, MAX_TURNS)?;
+    let text = trace_text_with_sends(alloc, script.nodes(), 0, &recording.steps);
     let finished = recording.finished;
     // By a call, and before any exit, since to drop each of its parts there is long to prove.
     drop(recording);
@@ -188,6 +215,7 @@ pub fn print_run(
     match format {
         OutputKind::Lines => lines_of(alloc, policy, script),
         OutputKind::Trace => trace_of(alloc, policy, script),
+        OutputKind::TraceWithSends => trace_with_sends_of(alloc, policy, script),
         OutputKind::Choices => choices_of(alloc, policy, script),
         OutputKind::Shrunk => shrunk_of(alloc, policy, script),
         OutputKind::State => state_of(alloc, policy, script),
@@ -198,6 +226,7 @@ pub fn print_run(
 ///
 /// - `Lines`: the lines of the report, as [`perform`] does.
 /// - `Trace`: the trace, as [`perform_trace`] does, at its cost.
+/// - `TraceWithSends`: the trace with the messages that each step sends, at that cost.
 /// - `Choices`: the policy's choices, in their words on one line. So `--policy listed --choices` with these words makes
 ///   the same run again, whatever policy made it first. It costs about what `perform` does, plus time and memory linear
 ///   in the number of turns.

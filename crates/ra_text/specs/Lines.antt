@@ -1,5 +1,5 @@
--- Printed lines: those of marks and of totals, and the fields of lines. A line is words with one space between two, and a line
--- feed at its end. Numbers are decimal, without leading zeros.
+-- Printed lines: those of marks and of totals, and the fields of lines. A line is words with one space between two, and
+-- a line feed at its end. Numbers are decimal, without leading zeros.
 use Rattle.std.specs.Prelude.{ℕ, List, ◌++◌, codes, decimal}
 use Rattle.ra_stamp.specs.Mark.{mark_word, entry_of_mark}
 use Rattle.ra_stamp.specs.Mode.{mode_word}

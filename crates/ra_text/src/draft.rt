@@ -76,7 +76,8 @@ impl Draft {
 
     /// Adds a kind of message, and then the sender, the receiver and the name.
     fn push_ends(&mut self, kind: &str, from: NodeId, to: NodeId, name: &Name)
-        ensures { Adds self.old (spec.field kind.now ++ spec.field (decimal from) ++ spec.field (decimal to) ++ spec.field name.now) self.new }
+        ensures { Adds self.old (spec.field kind.now ++ spec.field (decimal from) ++ spec.field (decimal to)
+            ++ spec.field name.now) self.new }
     {
         self.push_field(kind);
         self.push_number(from.get());

@@ -1,5 +1,5 @@
 //! Texts and streams: how a text is made part by part and cut apart, which lines of it are drawn, how a note to a
-//! person is made, which text is made of a run, and how bytes are read and written.
+//! person is made, and how bytes are read and written.
 #![tactic(auto)]
 
 mod cutting;
@@ -9,7 +9,6 @@ mod error;
 mod io;
 mod lines;
 mod note;
-mod output_kind;
 
 pub use cutting::cut;
 pub use draft::Draft;
@@ -20,4 +19,3 @@ pub use io::one_byte::next_byte;
 pub use io::whole_output::write_out;
 pub use lines::mark_line;
 pub use note::Note;
-pub use output_kind::OutputKind;

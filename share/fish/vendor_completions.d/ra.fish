@@ -20,6 +20,7 @@ complete -c ra -n '__fish_seen_subcommand_from sim' -l choices -x -a '' -d 'Make
 complete -c ra -n '__fish_seen_subcommand_from sim' -l seeds -x -a '' -d 'Survey the seeds of a range, such as 1..1000'
 complete -c ra -n '__fish_seen_subcommand_from sim' -l find -x -a 'finished stuck' -d 'With --seeds, trace the first finished or stuck run'
 complete -c ra -n '__fish_seen_subcommand_from sim' -l trace -d 'Print the trace in place of marks and totals'
+complete -c ra -n '__fish_seen_subcommand_from sim' -l sends -d 'With --trace, print what each step sends, too'
 complete -c ra -n '__fish_seen_subcommand_from sim' -l as-choices -d 'Print the choices in place of marks and totals'
 complete -c ra -n '__fish_seen_subcommand_from sim' -l shrink -d 'Print the choices of a shorter run that is stuck, too'
 complete -c ra -n '__fish_seen_subcommand_from sim' -l state -d 'Print the final state in place of marks and totals'

@@ -63,7 +63,7 @@ Policies, which choose each step:
           --choices \"c1 m0 m0 c1\"
 
 --trace prints the steps of the run, each with its marks, as `ra check` reads
-them.
+them. With --sends, it prints the messages that each step sends, too.
 Example: ra sim --trace < script.toml | ra check
 
 --as-choices prints the choices of the run, by which --policy listed repeats it,

@@ -179,6 +179,11 @@ const SIM_OPTIONS: &[OptionRow] = &[
         ..FLAG
     },
     OptionRow {
+        name: "sends",
+        help: "With --trace, print what each step sends, too",
+        ..FLAG
+    },
+    OptionRow {
         name: "as-choices",
         help: "Print the choices in place of marks and totals",
         ..FLAG

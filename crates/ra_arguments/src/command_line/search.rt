@@ -1,6 +1,6 @@
 //! What is asked of many seeds.
 use ra_schedule::{Ending, Faults, SeedRange};
-use ra_text::OutputKind;
+use ra_script::OutputKind;
 
 /// What is looked for among the runs of many seeds.
 #[derive(Clone, Copy)]

@@ -7,8 +7,7 @@ ghost use Rattle.ra_cli.specs.Tasks.{Does};
 use crate::output::{ALL_DONE, CommandOutcome, LEFT_UNFINISHED, refuse};
 use crate::refusal_lines::CommandRefusal;
 use ra_arguments::{PolicyName, policy_of};
-use ra_script::perform_as;
-use ra_text::OutputKind;
+use ra_script::{OutputKind, perform_as};
 use std::alloc::Global;
 use std::io::{Read, Write};
 

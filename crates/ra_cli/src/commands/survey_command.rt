@@ -79,7 +79,8 @@ fn found_of<O: Observer>(
     ensures ok { (input : List ℕ) → script_of input ≡ Ok script.now
         → IfOk result (λ told. IsFound asked.now search input (string_bytes told.text) told.finished) }
     ensures wordless { (input : List ℕ) → script_of input ≡ Ok script.now → IsErrOf result ChoicesError.Choice
-        → IsFirstUnwritten search.format asked.now.faults search.ending asked.now.seeds.first asked.now.seeds.last input }
+        → IsFirstUnwritten search.format asked.now.faults search.ending asked.now.seeds.first asked.now.seeds.last
+        input }
 {
     let Search { ending, format } = search;
     if let Some(found) = find_run(

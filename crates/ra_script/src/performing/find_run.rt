@@ -6,11 +6,10 @@ ghost use Rattle.ra_script.specs.Finding.{IsFirstRun, IsFirstUnwritten, NoneEnds
 ghost use Rattle.ra_script.specs.Performed.{turn_limit};
 ghost use Rattle.ra_script.specs.ScriptText.{script_of};
 
-use crate::PerformError;
 use crate::performing::printed::Printed;
 use crate::performing::{MAX_TURNS, print_run};
+use crate::{OutputKind, PerformError};
 use ra_schedule::{ChoicesError, Ending, Faults, Observer, Script, SeedRange, chance, first_seed};
-use ra_text::OutputKind;
 use std::alloc::Global;
 
 /// Returns what is written in a format of the run of a script by the least seed of a range by which it comes to an end
@@ -37,7 +36,8 @@ pub fn find_run<O: Observer>(
 ) -> Result<Option<Printed>, ChoicesError>
     ensures run { (input : List ℕ) → script_of input ≡ Ok script.now → IfOk result (λ found. MatchOption found
         (NoneEndsSo faults ending seeds.first seeds.last input)
-        (λ printed. IsFirstRun format faults ending seeds.first seeds.last input (string_bytes printed.text) printed.finished)) }
+        (λ printed. IsFirstRun format faults ending seeds.first seeds.last input (string_bytes printed.text)
+        printed.finished)) }
     ensures unwritten { (input : List ℕ) → script_of input ≡ Ok script.now → IsErrOf result ChoicesError.Choice
         → IsFirstUnwritten format faults ending seeds.first seeds.last input }
     ensures told { OnOk result ((found : Option ℕ)

@@ -3,8 +3,8 @@ use Rattle.ra_world.specs.Traffic.{Move, repeated_by}
 use Rattle.ra_schedule.specs.declared.choice.Policy.{Policy}
 use Rattle.ra_schedule.specs.Schedule.{Follows, RepeatsNothing}
 use Rattle.ra_schedule.specs.Script.{ScriptState}
-use Rattle.ra_text.specs.declared.output_kind.OutputKind.{OutputKind}
-use Rattle.ra_text.specs.declared.output_kind.OutputKind.TheVariants.{Lines, Trace, Choices, Shrunk, State}
+use Rattle.ra_script.specs.declared.output_kind.OutputKind.{OutputKind}
+use Rattle.ra_script.specs.declared.output_kind.OutputKind.TheVariants.{Lines, Trace, TraceWithSends, Choices, Shrunk, State}
 use Rattle.ra_script.specs.Performed.{Unwritten}
 use Rattle.ra_script.proofs.Wording.{all_have_text}
 use Rattle.ra_script.proofs.laws.choices_have_words_unless_messages_are_repeated.Goals as goal
@@ -14,6 +14,7 @@ written : ((script : ScriptState) (policy : Policy) (moves : List Move) → Repe
     → (format : OutputKind) (policy : Policy) (input : List ℕ) → RepeatsNothing policy → Unwritten format policy input → ⊥
 written law Lines policy input unrepeated none = none
 written law Trace policy input unrepeated none = none
+written law TraceWithSends policy input unrepeated none = none
 written law State policy input unrepeated none = none
 written law Choices policy input unrepeated none = none.repeats (law none.script policy none.moves unrepeated none.follows)
 written law Shrunk policy input unrepeated none = none.repeats (law none.script policy none.moves unrepeated none.follows)

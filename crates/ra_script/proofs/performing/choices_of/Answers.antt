@@ -3,7 +3,7 @@ use Rattle.std.proofs.lemmas.Result.{err_from_is_err_and}
 use Rattle.ra_schedule.specs.declared.choice.Policy.{Policy}
 use Rattle.ra_schedule.specs.declared.error.ChoicesError.{ChoicesError}
 use Rattle.ra_schedule.specs.declared.error.ChoicesError.TheVariants as choices
-use Rattle.ra_text.specs.declared.output_kind.OutputKind.TheVariants.{Choices}
+use Rattle.ra_script.specs.declared.output_kind.OutputKind.TheVariants.{Choices}
 use Rattle.ra_schedule.specs.ChoicesText.{HasText}
 use Rattle.ra_script.specs.Faults.{of_choices}
 use Rattle.ra_script.specs.Performed.{HasNoWords, RefusesAs}

@@ -12,7 +12,7 @@ use Rattle.ra_schedule.specs.Script.{ScriptState, IsScript}
 use Rattle.ra_schedule.specs.Shrinking.{IsStuckRun, IsLeastOf}
 use Rattle.ra_schedule.specs.declared.error.ChoicesError.{ChoicesError}
 use Rattle.ra_schedule.specs.declared.error.ChoicesError.TheVariants as choices
-use Rattle.ra_text.specs.declared.output_kind.OutputKind.TheVariants.{Shrunk}
+use Rattle.ra_script.specs.declared.output_kind.OutputKind.TheVariants.{Shrunk}
 use Rattle.ra_schedule.specs.ChoicesText.{HasText, Lists}
 use Rattle.ra_script.specs.Faults.{of_choices}
 use Rattle.ra_script.specs.Performed.{HasNoWords, RefusesAs, SaysShrunk}

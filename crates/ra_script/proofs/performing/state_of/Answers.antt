@@ -1,5 +1,5 @@
 use Rattle.std.proofs.lemmas.Result.{err_from_is_err_and}
-use Rattle.ra_text.specs.declared.output_kind.OutputKind.TheVariants.{State}
+use Rattle.ra_script.specs.declared.output_kind.OutputKind.TheVariants.{State}
 use Rattle.ra_script.proofs.Printing.{written, undriven}
 use Rattle.ra_script.proofs.performing.state_of.Goals as goal
 

@@ -3,7 +3,7 @@ use Rattle.std.proofs.lemmas.Result.{err_from_is_err_and}
 use Rattle.ra_world.specs.Run.{IsRun}
 use Rattle.ra_world.specs.Traffic.{Move}
 use Rattle.ra_trace.specs.TraceText.{IsTrace}
-use Rattle.ra_text.specs.declared.output_kind.OutputKind.TheVariants.{Trace}
+use Rattle.ra_script.specs.declared.output_kind.OutputKind.TheVariants.{Trace}
 use Rattle.ra_script.proofs.Printing.{written, no_memory, undriven}
 use Rattle.ra_script.proofs.performing.trace_of.Goals as goal
 

@@ -1,11 +1,12 @@
-/// Which text is made of a run. It is here because a command line asks for one in `ra_arguments`, and `ra_script` makes
-/// it: neither uses the other.
+/// Which text is made of a run.
 #[derive(Clone, Copy)]
 pub enum OutputKind {
     /// The lines of its report.
     Lines,
     /// Its trace.
     Trace,
+    /// Its trace, with the messages that each step sends.
+    TraceWithSends,
     /// The choices by which the policy listed makes it again: their words on one line.
     Choices,
     /// If it is stuck, the choices of the least run that is found by leaving out one step after the other, and
