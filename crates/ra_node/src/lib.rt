@@ -11,8 +11,8 @@
 //!   client that gives up may have been let in just before; then it holds the lock, and leaves.
 //! - If clients come with ever new names, it calls [`Node::forget`] now and then.
 //! - It sends each message of the [`Outcome`] to the node that the message is for.
-//! - It follows the marks of the outcome. A client has the lock from its mark Entered until it leaves. The mark may
-//!   come with its own ask, with a message, or with the leave or the cancel of another client of the node.
+//! - It follows the marks of the outcome. A client has the lock from its mark Entered until it leaves. The mark comes
+//!   with a message or, if the node is alone, with the client's ask or the leave of another client.
 //!
 //! ```text
 //! let mut node = Node::new(alloc, me, 3, 0)?;

@@ -494,7 +494,7 @@ impl Node {
                 return Err(fault);
             }
         };
-        let Ok(()) = self.observe(name, slot) else {
+        let Ok(()) = self.insert_slot(name, slot) else {
             return Err(AskError::Memory);
         };
         Ok(outcome)
@@ -528,7 +528,7 @@ impl Node {
                 return Err(fault);
             }
         };
-        let Ok(()) = self.observe(name, slot) else {
+        let Ok(()) = self.insert_slot(name, slot) else {
             return Err(ReceiveError::Memory);
         };
         Ok(outcome)
@@ -542,15 +542,15 @@ impl Node {
         Slot::new(alloc, self.member, name, self.start)
     }
 
-    /// Observes a name that the node had not met: its slot is one of the node's from now on.
+    /// Inserts the slot of a name that the node had not met.
     ///
     /// # Errors
     ///
     /// `Memory`: the node is as before.
-    fn observe(&mut self, name: Name, slot: Slot) -> Result<(), Memory>
+    fn insert_slot(&mut self, name: Name, slot: Slot) -> Result<(), Memory>
         requires first { map.get self.old.resources name ≡ None }
         requires consistent { IsConsistentResource self.old.me self.old.nodes name self.old.start slot }
-        ensures observed { OnOk result (self.new ≡ with_resource self.old name slot) }
+        ensures inserted { OnOk result (self.new ≡ with_resource self.old name slot) }
         ensures err { OnErr result (self.new ≡ self.old) }
         ensures consistent { IsConsistentNode self.new }
     {

@@ -334,7 +334,7 @@ impl Slot {
             }
             return Err(CancelError::NotWaiting);
         };
-        // The marks of the request that the next client makes have room, too.
+        // The marks are two at most; the room is that of a leave, since one list serves both.
         let Ok(()) = outcome.marks.reserve(3) else {
             return Err(CancelError::Memory);
         };

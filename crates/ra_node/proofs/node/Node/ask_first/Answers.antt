@@ -5,8 +5,8 @@ use Rattle.ra_node.specs.Turns.{MayAsk}
 use Rattle.ra_node.proofs.After.{first_here, first_ask_kept, first_asked}
 use Rattle.ra_node.proofs.node.Node.ask_first.Goals as goal
 
-pub observe-requires-clause-consistent : goal.observe-requires-clause-consistent
-observe-requires-clause-consistent c =
+pub insert_slot-requires-clause-consistent : goal.insert_slot-requires-clause-consistent
+insert_slot-requires-clause-consistent c =
     let slot = c.unmet_slot-slot in
     let ended = c.in-Ok.ensures in
     first_ask_kept c.args.self.now c.args.name c.requires slot.result slot.ensures.value slot.ensures.consistent c.args.client c.args.mode _ _ c.ask.new.self ended.0 ended.1
@@ -14,7 +14,7 @@ observe-requires-clause-consistent c =
 pub returns-clause-asked : goal.returns-clause-asked
 returns-clause-asked c =
     let slot = c.unmet_slot-slot in
-    first_asked c.args.self.now c.args.name c.requires slot.result slot.ensures.value c.args.client c.args.mode _ _ c.ask.new.self c.in-Ok.ensures.0 c.observe.new.self c.in-Ok-observe.ensures.observed
+    first_asked c.args.self.now c.args.name c.requires slot.result slot.ensures.value c.args.client c.args.mode _ _ c.ask.new.self c.in-Ok.ensures.0 c.insert_slot.new.self c.in-Ok-insert_slot.ensures.inserted
 
 pub returns-in-Err-clause-asked : goal.returns-in-Err-clause-asked
 returns-in-Err-clause-asked c =

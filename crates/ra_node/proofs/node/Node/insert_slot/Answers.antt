@@ -4,7 +4,7 @@ use Rattle.ra_node.specs.Node.{IsConsistentNode}
 use Rattle.ra_node.proofs.After.{kept_as}
 use Rattle.ra_node.proofs.NodeLemmas.{after_update}
 use Rattle.ra_node.proofs.Totals.{come, one_at_most, few_wait, few_queue}
-use Rattle.ra_node.proofs.node.Node.observe.Goals as goal
+use Rattle.ra_node.proofs.node.Node.insert_slot.Goals as goal
 
 pub overflow_add-waiting : goal.overflow_add-waiting
 overflow_add-waiting c =
@@ -35,8 +35,8 @@ invariant_of-self-2 c =
       counted = omega (arith, was.counted, more (λ r. length r.queue / 2 ^ 64), c.queued.ensures, c.queued.type_inv);
     }
 
-pub returns-clause-observed : goal.returns-clause-observed
-returns-clause-observed c =
+pub returns-clause-inserted : goal.returns-clause-inserted
+returns-clause-inserted c =
     let n = c.self.inside in
     (after_update n.member.node n.member.nodes n.start n.slots.entries c.args.self.now c.self.view_is c.args.name c.args.slot c.insert.new.self.entries (subst IsConsistentNode c.self.view_is c.self.invariant.consistent) c.in_ok-insert.ensures.updates.0 c.requires.consistent).view
 

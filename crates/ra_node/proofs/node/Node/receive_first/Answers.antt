@@ -9,8 +9,8 @@ pub returns-in_default-clause-received : goal.returns-in_default-clause-received
 returns-in_default-clause-received c =
     first_stays c.args.self.now _ refl c.args.message.now _ _ _ _ c.in_default.is c.requires.first _ _ c.nothing.ensures.0 c.nothing.ensures.1
 
-pub observe-requires-clause-consistent : goal.observe-requires-clause-consistent
-observe-requires-clause-consistent c =
+pub insert_slot-requires-clause-consistent : goal.insert_slot-requires-clause-consistent
+insert_slot-requires-clause-consistent c =
     let slot = c.unmet_slot-slot in
     let ended = c.in-Ok.ensures.received in
     let none = ap (λ (q : List ℕ). finmap.get c.args.self.now.resources q) (sym (ap name_of c.in-Request.is)) ∙ c.requires.first in
@@ -25,13 +25,13 @@ returns-clause-received c =
     let name-is : c.in-Request.name ≡ name_of c.args.message.now = sym (ap name_of c.in-Request.is) in
     let none = ap (λ (q : List ℕ). finmap.get c.args.self.now.resources q) name-is ∙ c.requires.first in
     let no_stray = request_is_no_stray slot.result c.args.message.now _ _ _ _ _ c.in-Request.is in
-    first_received c.args.self.now c.in-Request.name none slot.result slot.ensures.value c.args.message.now _ _ c.receive.new.self name-is c.in-Ok.ensures.received.0 no_stray c.observe.new.self c.in-Ok-observe.ensures.observed
+    first_received c.args.self.now c.in-Request.name none slot.result slot.ensures.value c.args.message.now _ _ c.receive.new.self name-is c.in-Ok.ensures.received.0 no_stray c.insert_slot.new.self c.in-Ok-insert_slot.ensures.inserted
 
-pub observe-requires-clause-first : goal.observe-requires-clause-first
-observe-requires-clause-first c = ap (λ (q : List ℕ). finmap.get c.args.self.now.resources q) (sym (ap name_of c.in-Request.is)) ∙ c.requires.first
+pub insert_slot-requires-clause-first : goal.insert_slot-requires-clause-first
+insert_slot-requires-clause-first c = ap (λ (q : List ℕ). finmap.get c.args.self.now.resources q) (sym (ap name_of c.in-Request.is)) ∙ c.requires.first
 
-pub returns-in_default-observe-clause-received : goal.returns-in_default-observe-clause-received
-returns-in_default-observe-clause-received c = (refl, c.in_default-observe.ensures.err)
+pub returns-in_default-insert_slot-clause-received : goal.returns-in_default-insert_slot-clause-received
+returns-in_default-insert_slot-clause-received c = (refl, c.in_default-insert_slot.ensures.err)
 
-pub returns-in_default-observe-clause-brings : goal.returns-in_default-observe-clause-brings
-returns-in_default-observe-clause-brings c = first_is_brought c.args.self.now c.args.message.now _ _ _ _ _ c.in-Request.is c.requires.first
+pub returns-in_default-insert_slot-clause-brings : goal.returns-in_default-insert_slot-clause-brings
+returns-in_default-insert_slot-clause-brings c = first_is_brought c.args.self.now c.args.message.now _ _ _ _ _ c.in-Request.is c.requires.first
