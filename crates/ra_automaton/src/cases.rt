@@ -1,7 +1,7 @@
 //! The cases of `Automaton::receive`, as tables: a row for each case, and what it leads to. They stay tables, and
 //! are not folded into a formula, since they are the cases by which the algorithm is specified: a reader can hold
-//! the two side by side, and each row is one case of the tests. For a REQUEST there are 205, of which 5 are for an
-//! idle node and 20 for each phase and own mode of another; for a REPLY there are 6.
+//! the two side by side, and each row is one case of the tests. For a REQUEST there are 205: 5 if the node is idle, and
+//! 20 for each own mode, both if it waits and if it is inside. For a REPLY there are 6.
 //!
 //! A node that waits and one that is inside answer alike. Each of these phases has tables of its own all the same: so
 //! each case of the algorithm is a row, and no row depends on the two phases being alike.
@@ -26,7 +26,7 @@ use ra_stamp::{Mode, Stamp};
 pub enum Answer {
     /// The REPLY goes out at once.
     Reply,
-    /// The REPLY waits until the node leaves.
+    /// The REPLY waits until the node leaves or withdraws.
     Defer,
 }
 
@@ -412,8 +412,11 @@ fn answer_when_shared_intent_exclusive_holds(wanted: Mode, comparison: Compariso
 /// A phase without the number and the mode of the request.
 #[derive(Clone, Copy)]
 pub enum PhaseKind {
+    /// The node has no request.
     Idle,
+    /// Its request awaits REPLYs.
     Waiting,
+    /// Its request is granted.
     Inside,
 }
 

@@ -3,7 +3,7 @@ use ra_stamp::Mode;
 /// What a node is doing with a resource.
 #[derive(Clone, Copy, Debug, PartialEq, Eq)]
 pub enum Phase {
-    /// No request of the node is under way.
+    /// The node has no request.
     Idle,
     /// The node's request awaits REPLYs.
     Waiting {

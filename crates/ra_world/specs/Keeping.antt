@@ -57,7 +57,7 @@ pub record IsShort (w : WorldState) (step : Step) (cause : StepError) : Type 0 w
   pub goes_on : GoesOn w.count w.start w.moves step
   pub needs : MayNeedMemory w.count w.start w.moves step ⊎ IsFull w.moves
 
--- what comes of a step that is tried: it is made, or it is refused and nothing changes, for a cause of its own or for
+-- the result of a step that is tried: it is made, or it is refused and nothing changes, for a cause of its own or for
 -- lack of memory
 abbrev pub Tries : WorldState → Step → Result Outcome StepError → WorldState → Type 0
 Tries old step (Ok outcome) new = new ≡ with_move old step outcome.sends.items outcome.marks.items

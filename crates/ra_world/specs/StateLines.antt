@@ -96,7 +96,7 @@ node_lines n names nodes count = flat_map (λ i. lines_at n names i (nodes i)) (
 abbrev pub message_line : ℕ → Message → List ℕ
 message_line place message = codes "message" ++ field (decimal place) ++ message_fields message ++ codes "\n"
 
--- the lines of messages under way, of which the first is at this place
+-- the lines of messages under way, the first of which is at this place
 abbrev pub message_lines : ℕ → List Message → List ℕ
 message_lines place [] = []
 message_lines place (message ∷ messages) = message_line place message ++ message_lines (place + 1) messages
@@ -133,7 +133,7 @@ state_text n steps names nodes left clients =
 
 -- The text says which state n nodes are in after these moves from the start value. Of the nodes it tells what they know
 -- of these names, and of the clients it has these lines. The requests of the nodes are the lock table of the moves'
--- marks, of which the text has those on these names.
+-- marks, and the text has those on these names.
 pub record IsStateText (n start : ℕ) (moves : List Move) (names : List (List ℕ)) (clients text : List ℕ) : Type 0 where
   pub nodes : ℕ → NodeState
   pub ends : EndsWith n start moves nodes

@@ -47,7 +47,7 @@ abbrev pub lost_by : List Move → List Message
 lost_by [] = []
 lost_by (move ∷ moves) = lost_in move.step ++ lost_by moves
 
--- the message of which a step puts a copy under way, if it puts one
+-- the message that a step repeats, if it repeats one
 abbrev pub repeated_in : Step → List Message
 repeated_in (Ask node client name mode) = []
 repeated_in (Leave node client name) = []
@@ -57,7 +57,7 @@ repeated_in (Lose message) = []
 repeated_in (Repeat message) = message ∷ []
 repeated_in (Forget node) = []
 
--- all messages of which these steps put a copy under way, in order
+-- all messages that these steps repeat, in order
 abbrev pub repeated_by : List Move → List Message
 repeated_by [] = []
 repeated_by (move ∷ moves) = repeated_in move.step ++ repeated_by moves

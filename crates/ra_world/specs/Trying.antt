@@ -1,4 +1,4 @@
--- What comes of a step that is tried, in terms of what a world keeps. No public contract speaks of it.
+-- The result of a step that is tried, in terms of what a world keeps. No public contract speaks of it.
 use Rattle.std.specs.Prelude.{◌≡◌, ◌⊎◌, ℕ, List, [], ◌∷◌, ◌++◌, Result, Ok, Err}
 use Rattle.ra_stamp.specs.declared.message.Message.{Message}
 use Rattle.ra_bag.specs.Bag.{TakesFirst, TakesOne}
@@ -67,7 +67,7 @@ IsEventRefusal s moves (acts.Receive message) NotUnderWay = ⊥
 IsEventRefusal s moves (acts.Receive message) (Node why) = ⊥
 IsEventRefusal s moves (acts.Receive message) Memory = (BringsNothing s message → ⊥) ⊎ IsFull moves
 
--- what comes of a step that is tried as an event of a node: the event happens there, what it sends comes under way
+-- the result of a step that is tried as an event of a node: the event happens there, what it sends comes under way
 -- after the messages that it leaves there, and the step is logged; or nothing changes, for this cause
 abbrev pub TriesAt : {keeps : ℕ} → Step → Event → NodeState → KeptSteps keeps → Result Outcome StepError → NodeState
     → KeptSteps keeps → Type 0

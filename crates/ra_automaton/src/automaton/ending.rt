@@ -66,7 +66,7 @@ impl Automaton {
     ///
     /// # Errors
     ///
-    /// The automaton is then as before, inside where it was. The first that holds:
+    /// The automaton is then as before. The first that holds:
     ///
     /// 1. `NotHeld`: the node is not inside.
     /// 2. `Memory`: memory ran out.

@@ -128,7 +128,7 @@ fn push_messages(text: &mut Draft, under_way: &Bag)
     }
 }
 
-/// Adds the lines of the requests of all nodes on names, of which each node has at most one on each.
+/// Adds the lines of the requests of all nodes on names. Each node has at most one on a name.
 fn push_table(text: &mut Draft, nodes: &[Node], names: &[Name])
     ensures { Adds text.old (spec.table_lines names.now (nodes_of nodes.now) (length nodes.now)) text.new }
 {

@@ -1,4 +1,4 @@
-//! What comes of a step at its node. Room for what the node sends and marks is made first, so that the step can be
+//! What a step does at its node. Room for what the node sends and marks is made first, so that the step can be
 //! kept.
 ghost use Rattle.std.specs.Prelude.{◌*◌, ◌≤◌, Contains};
 ghost use Rattle.ra_automaton.specs.State.{IsForNode};
@@ -101,7 +101,7 @@ pub fn cancel_at<const KEEPS_MARKS: u8>(
     requires sends { 2 * node.old.nodes ≤ sends }
     ensures { TriesAt step.now (event.Cancel client name.now) node.old kept.old result node.new kept.new }
 {
-    // The marks are Withdrawn, Requested and, if the node is alone, Entered.
+    // The marks are Withdrawn and Requested; the room is that of a leave.
     let Ok(()) = kept.make_room(sends, 3) else {
         // That the node refuses comes before that memory ran out.
         if !node.is_kept_waiting(client, name) {
