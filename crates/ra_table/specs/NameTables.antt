@@ -48,8 +48,8 @@ module _ {X : Type 0} (part : X → List Entry) where
   abbrev pub AreOnTheirNames : List (List ℕ × X) → Type 0
   AreOnTheirNames name_tables = AllByRecursion (λ name_table. AreOn name_table.0 (part name_table.1)) name_tables
 
--- this place, counted from 0, is that of the table of this name, the one that is found and written by the name. If the name has none,
--- the place is past the end, where nothing is found or written
+-- this place, counted from 0, is that of the table of this name, the one that is found and written by the name. If the
+-- name has none, the place is past the end, where nothing is found or written
 pub record IsPlaceOf (name_tables : List (List ℕ × LockTable)) (name : List ℕ) (place : ℕ) : Type 0 where
   pub found : slice_get (values_of name_tables) place ≡ lookup (bytes_eq name) name_tables
   pub written : (new : LockTable) → set_value_at name_tables place new ≡ set_value (bytes_eq name) name_tables new
@@ -68,10 +68,14 @@ granted_of name_table = name_table.granted
 
 -- the table of the entries of all names
 abbrev pub table_of : List (List ℕ × LockTable) → LockTable
-table_of name_tables = record { waiting = joined waiting_of name_tables; holding = joined holding_of name_tables; granted = joined granted_of name_tables }
+table_of name_tables = record {
+  waiting = joined waiting_of name_tables;
+  holding = joined holding_of name_tables;
+  granted = joined granted_of name_tables;
+}
 
--- what is always so of the tables of all names: no name has two, each entry is in the table of its name, and no two entries
--- hold in conflict
+-- what is always so of the tables of all names: no name has two, each entry is in the table of its name, and no two
+-- entries hold in conflict
 pub record IsKept (name_tables : List (List ℕ × LockTable)) : Type 0 where
   pub distinct : IsDistinct bytes_eq (keys_of name_tables)
   pub waiting : AreOnTheirNames waiting_of name_tables

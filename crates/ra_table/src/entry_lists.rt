@@ -6,8 +6,8 @@ ghost use Rattle.ra_table.specs.Refusals.{SharesNodeAndName};
 
 use ra_stamp::{Entry, Memory, conflicts};
 
-/// Returns whether two entries are on one name, in modes that conflict.
-fn excludes(a: &Entry, b: &Entry) -> bool
+/// Returns whether two entries exclude each other: they are on one name, in modes that conflict. It does not allocate.
+pub fn excludes(a: &Entry, b: &Entry) -> bool
     ensures { IsTrue result ↔ Excludes a.now b.now }
 {
     a.name == b.name && conflicts(a.mode, b.mode)

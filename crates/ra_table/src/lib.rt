@@ -8,6 +8,7 @@ mod laws;
 mod name_table;
 mod table;
 
+pub use entry_lists::excludes;
 pub use error::{EnterError, LeaveError, RequestError, WithdrawError};
 pub use laws::{
     conflicting_entries_never_hold_at_once, granted_entries_have_entered,
