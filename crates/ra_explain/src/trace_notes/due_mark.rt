@@ -30,38 +30,29 @@ fn push_send(note: &mut Note, message: &Message) {
     push_field(note, message.seq());
 }
 
-/// Adds which message or mark is due at a line of a trace, or that none is. If no mark is and the line grants a request
-/// that waits, it adds whose REPLY the client still awaits.
-pub fn push_due(alloc: Global, note: &mut Note, replay: &Replay, line: &[u8], due: &Option<Line>) {
-    if let Some(Line::Sent(message)) = due {
-        note.push("expected ");
-        push_send(note, message);
-        if !line.starts_with(b"send ") {
-            note.push(" first");
-        }
-        push_number_in(note, ", which the step in line ", replay.step_at, " sends");
-        return;
+/// Adds which message is due at a line, and which step sends it.
+fn push_due_send(note: &mut Note, step_at: u64, line: &[u8], message: &Message) {
+    note.push("expected ");
+    push_send(note, message);
+    if !line.starts_with(b"send ") {
+        note.push(" first");
     }
-    if line.starts_with(b"send ") {
-        push_number_in(
-            note,
-            "the step in line ",
-            replay.step_at,
-            " sends no other message",
-        );
+    push_number_in(note, ", which the step in line ", step_at, " sends");
+}
+
+/// Adds which mark is due at a line.
+fn push_due_mark(alloc: Global, note: &mut Note, mark: &Mark) {
+    let Ok(line) = mark_line(alloc, mark) else {
+        note.refuse_if(true);
         return;
-    }
-    if let Some(Line::Marked(mark)) = due {
-        match mark_line(alloc, mark) {
-            Ok(line) => {
-                note.push("expected the mark '");
-                note.push(line.as_str().strip_suffix("\n").unwrap_or(""));
-                note.push("' here");
-            }
-            Err(_) => note.refuse_if(true),
-        }
-        return;
-    }
+    };
+    note.push("expected the mark '");
+    note.push(line.as_str().strip_suffix("\n").unwrap_or(""));
+    note.push("' here");
+}
+
+/// Adds that no mark is due. If the line grants a request that waits, it adds whose REPLY the client still awaits.
+fn push_no_mark(note: &mut Note, replay: &Replay) {
     note.push("expected no mark here");
     if let Some(Mark::Entered(entry)) = &replay.mark
         && let Some(request) = replay.open.request_of(entry)
@@ -77,5 +68,21 @@ pub fn push_due(alloc: Global, note: &mut Note, replay: &Replay, line: &[u8], du
             1 => note.push(", and of 1 other node"),
             _ => push_number_in(note, ", and of ", others, " other nodes"),
         }
+    }
+}
+
+/// Adds which message or mark is due at a line of a trace, or that none is, and why.
+pub fn push_due(alloc: Global, note: &mut Note, replay: &Replay, line: &[u8], due: &Option<Line>) {
+    let step_at = replay.step_at;
+    match due {
+        Some(Line::Sent(message)) => push_due_send(note, step_at, line, message),
+        _ if line.starts_with(b"send ") => push_number_in(
+            note,
+            "the step in line ",
+            step_at,
+            " sends no other message",
+        ),
+        Some(Line::Marked(mark)) => push_due_mark(alloc, note, mark),
+        _ => push_no_mark(note, replay),
     }
 }

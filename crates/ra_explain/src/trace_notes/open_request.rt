@@ -1,6 +1,7 @@
 //! A client that waits, is queued or holds, as a note says it.
 use crate::note_parts::{push_name_and_mode, push_numbered};
-use ra_stamp::{Entry, Mode, Name, conflicts};
+use ra_stamp::{Entry, Mode, Name};
+use ra_table::excludes;
 use ra_text::Note;
 
 /// What a client does between its ask and its release.
@@ -56,12 +57,13 @@ impl OpenRequest {
         !self.stage.is(Stage::Queued) && self.entry.name == *name
     }
 
-    /// Returns whether it keeps out an entry that waits: it is another one on its name in a mode that conflicts, and
-    /// holds or is earlier.
+    /// Returns whether it keeps out an entry that waits: it excludes that one, and holds or is earlier.
     pub fn blocks(&self, entry: &Entry) -> bool {
-        self.is_on(&entry.name)
-            && conflicts(self.entry.mode, entry.mode)
-            && (self.stage.is(Stage::Holds) || self.entry.stamp < entry.stamp)
+        match self.stage {
+            Stage::Queued => false,
+            Stage::Waits => excludes(&self.entry, entry) && self.entry.stamp < entry.stamp,
+            Stage::Holds => excludes(&self.entry, entry),
+        }
     }
 
     /// Adds that it is in the way of another one, since it holds or came first.
