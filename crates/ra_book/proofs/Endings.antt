@@ -16,7 +16,7 @@ use Rattle.ra_book.specs.declared.error.BookError.{BookError}
 use Rattle.ra_book.specs.declared.error.BookError.TheVariants.{Failed, ClockFull, Memory}
 use Rattle.ra_book.specs.Endings.{kind_of, refusal_of, AnswersEnding, RefusesEnding}
 use Rattle.ra_book.specs.EventChecks.{MayTake, NodeRefuses, CanHappen, IsRefusedAfter}
-use Rattle.ra_book.specs.History.{node_event, clock_after, clock_of}
+use Rattle.ra_book.specs.History.{node_event, clock_of}
 use Rattle.ra_book.specs.Book.{BookState, whole_events, HasClock, Runs}
 use Rattle.ra_book.specs.Keeping.{IsForThisBook, sends_by}
 use Rattle.ra_book.proofs.Running.{has_fault, has_next, passed, passed_allowed}

@@ -13,8 +13,8 @@ use Rattle.ra_book.specs.declared.book.sent.Sent.{Sent}
 use Rattle.ra_book.specs.declared.book.stop.Stop.{Stop}
 use Rattle.ra_book.specs.History.{IsHistory, node_event, clock_after, clock_of, frames_at}
 
--- What was taken from a book: whether its events were ever taken, even when there were none, and the events and frames, which
--- are not kept any more. An auditor has the events.
+-- What was taken from a book: whether its events were ever taken, even when there were none, and the events and frames.
+-- The book does not keep these any more. An auditor has the events.
 pub record TakenState : Type 0 where
   pub some : Bool
   pub events : List BookEvent
@@ -82,8 +82,8 @@ with_event book clock kind frames = record book {
   sent = book.sent ++ as_sent frames;
 }
 
--- The book has one more event, in which the node posted these frames and marks. They are those of the event at the node
--- to which the old book leads, and the frames have the clock of the event.
+-- The book has one more event, and the node to which the old book leads posted these frames and marks in it. The frames
+-- have the clock of the event.
 pub record Adds (old : BookState) (kind : BookKind) (frames : List Frame) (marks : List Mark)
     (new : BookState) : Type 0 where
   pub before : NodeState

@@ -6,7 +6,7 @@ use Rattle.ra_book.specs.Book.{BookState}
 use Rattle.ra_book.specs.Pairs.{sent_to, come_from}
 
 -- the book, from which nothing was taken, after its first `count` events, or after all if it has fewer: these, and the
--- frames with clocks up to that of the last of them
+-- frames with no greater clocks than the last of them
 abbrev pub first_of : ℕ → BookState → BookState
 first_of count book = record book {
   events = take count book.events;

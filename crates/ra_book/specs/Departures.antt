@@ -18,16 +18,18 @@ pub record HasRoomFor (nodes leaves spare len capacity : ℕ) : Type 0 where
   pub events : leaves ≤ spare
   pub sent : len + leaves * (2 * nodes) ≤ capacity
 
--- there is a departure for each client that waits, is queued or holds, and room for the events and frames of their leaves
-pub record IsReserved (nodes : ℕ) (node : NodeState) (spare len capacity : ℕ) (departures : List Departure) : Type 0 where
+-- there is a departure for each client that waits, is queued or holds, and room for the events and frames of their
+-- leaves
+pub record IsReserved (nodes : ℕ) (node : NodeState) (spare len capacity : ℕ) (departures : List Departure)
+    : Type 0 where
   pub many : clients_count node ≤ length departures
   pub each : All (IsDeparture nodes) departures
   pub room : HasRoomFor nodes (length departures) spare len capacity
 
 -- ---- One more event
 
--- A list of events with this spare, one of this many sent frames with this capacity, and an empty list of frames have room for an event
--- that sends at most this many messages, and then for this many leaves.
+-- A list of events with this spare, one of this many sent frames with this capacity, and an empty list of frames have
+-- room for an event that sends at most this many messages, and then for this many leaves.
 pub record HasRoomMade (nodes sends leaves spare len capacity : ℕ) (list : Listed Frame) : Type 0 where
   pub events : leaves + 1 ≤ spare
   pub sent : len + sends + leaves * (2 * nodes) ≤ capacity

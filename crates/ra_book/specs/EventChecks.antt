@@ -25,12 +25,15 @@ MayTake node Forget = Unit {0}
 abbrev pub NodeRefuses : NodeState → BookKind → BookError → Type 0
 NodeRefuses node (Ask client name mode) why =
     ((why ≡ Busy) × IsBusy (resource_at node name) client)
-    ⊎ ((why ≡ Exhausted) × (IsBusy (resource_at node name) client → ⊥) × ((resource_at node name).state.highest ≡ greatest_number))
-NodeRefuses node (Leave client name) why = (why ≡ NotHeld) × ((entry : Entry) → Holds (resource_at node name) client entry → ⊥)
+    ⊎ ((why ≡ Exhausted) × (IsBusy (resource_at node name) client → ⊥)
+    × ((resource_at node name).state.highest ≡ greatest_number))
+NodeRefuses node (Leave client name) why =
+    (why ≡ NotHeld) × ((entry : Entry) → Holds (resource_at node name) client entry → ⊥)
 NodeRefuses node (Cancel client name) why = (why ≡ NotWaiting) × (IsKeptWaiting (resource_at node name) client → ⊥)
 NodeRefuses node (Receive frame) why =
     ((why ≡ WrongNode) × (to_of frame.message ≢ node.me))
-    ⊎ ((why ≡ Stranger) × (to_of frame.message ≡ node.me) × ((from_of frame.message ≡ node.me) ⊎ (node.nodes < from_of frame.message)))
+    ⊎ ((why ≡ Stranger) × (to_of frame.message ≡ node.me)
+    × ((from_of frame.message ≡ node.me) ⊎ (node.nodes < from_of frame.message)))
 NodeRefuses node Forget why = ⊥
 
 -- the event can happen after this clock, and then has the next one

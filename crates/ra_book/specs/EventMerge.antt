@@ -32,17 +32,19 @@ pub record AreNext (books : List BookState) (nexts : List Next) : Type 0 where
   pub each : (place : ℕ) (book : BookState) (d : Next) → slice_get books place ≡ Some book
       → slice_index_or nexts place d ≡ next_of_book book (slice_index_or nexts place d).taken
 
--- the clock of the turn is less than that of the event, or they are equal and the turn's place is not after this one
+-- the turn has a lesser clock than the event, or the same one and a place that is not after this one
 abbrev pub IsNotAfter : Turn → ℕ → BookEvent → Type 0
 IsNotAfter turn place event =
     (turn.event.clock < event.clock) ⊎ ((turn.event.clock ≡ event.clock) × (turn.place ≤ place))
 
 -- the earliest of the next events of the first `count` books
 abbrev pub IsEarliest : List BookState → List ℕ → ℕ → Option Turn → Type 0
-IsEarliest books taken count None = (place : ℕ) (event : BookEvent) → place < count → IsNextOfBook books taken place event → ⊥
+IsEarliest books taken count None =
+    (place : ℕ) (event : BookEvent) → place < count → IsNextOfBook books taken place event → ⊥
 IsEarliest books taken count (Some turn) =
     (turn.place < count) × IsNextOfBook books taken turn.place turn.event
-    × ((place : ℕ) (event : BookEvent) → place < count → IsNextOfBook books taken place event → IsNotAfter turn place event)
+    × ((place : ℕ) (event : BookEvent) → place < count → IsNextOfBook books taken place event
+    → IsNotAfter turn place event)
 
 -- the place of an event's book, and its clock
 abbrev pub head_of : Turn → Head

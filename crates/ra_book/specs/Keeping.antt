@@ -112,12 +112,13 @@ pub record IsChecked {T : Type 0} (book : BookState) (Next : T → Type 0) (answ
 -- ---- Refusals
 
 -- an ask is answered as `Book::ask` says, with `Memory` as the only other error
-pub record AnswersAsk {T : Type 0} (book : BookState) (client : ℕ) (name : List ℕ) (mode : Mode) (answer : Result T BookError)
-    : Type 0 where
+pub record AnswersAsk {T : Type 0} (book : BookState) (client : ℕ) (name : List ℕ) (mode : Mode)
+    (answer : Result T BookError) : Type 0 where
   pub failed : IsErrOf answer Failed ↔ IsSome book.fault
   pub busy : IsErrOf answer Busy ↔ Runs book (λ node. IsBusy (resource_at node name) client)
   pub exhausted : IsErrOf answer Exhausted
-      ↔ Runs book (λ node. (IsBusy (resource_at node name) client → ⊥) × ((resource_at node name).state.highest ≡ greatest_number))
+      ↔ Runs book (λ node. (IsBusy (resource_at node name) client → ⊥)
+      × ((resource_at node name).state.highest ≡ greatest_number))
   pub clock_full : IsErrOf answer ClockFull
       ↔ Runs book (λ node. MayAsk (resource_at node name) client × (HasClock book (Ask client name mode) → ⊥))
   pub allowed : IsOkUnless answer Memory
@@ -127,13 +128,47 @@ pub record AnswersAsk {T : Type 0} (book : BookState) (client : ℕ) (name : Lis
 abbrev pub RefusesAsk : BookState → ℕ → List ℕ → Mode → BookError → Type 0
 RefusesAsk book client name mode refused = AnswersAsk {T = Posted} book client name mode (Err refused)
 
+-- a leave is answered as `Book::leave` says
+pub record AnswersLeave {T : Type 0} (book : BookState) (client : ℕ) (name : List ℕ) (answer : Result T BookError)
+    : Type 0 where
+  pub failed : IsErrOf answer Failed ↔ IsSome book.fault
+  pub not_held : IsErrOf answer NotHeld
+      ↔ Runs book (λ node. (entry : Entry) → Holds (resource_at node name) client entry → ⊥)
+  pub clock_full : IsErrOf answer ClockFull
+      ↔ Runs book (λ node. ((entry : Entry) × Holds (resource_at node name) client entry)
+      × (HasClock book (Leave client name) → ⊥))
+  pub allowed : IsOkUnless answer Memory
+      ↔ Runs book (λ node. ((entry : Entry) × Holds (resource_at node name) client entry)
+      × HasClock book (Leave client name))
+
+-- a leave is refused for this cause, as `Book::leave` says
+abbrev pub RefusesLeave : BookState → ℕ → List ℕ → BookError → Type 0
+RefusesLeave book client name refused = AnswersLeave {T = Posted} book client name (Err refused)
+
+-- a cancel is answered as `Book::cancel` says
+pub record AnswersCancel {T : Type 0} (book : BookState) (client : ℕ) (name : List ℕ) (answer : Result T BookError)
+    : Type 0 where
+  pub failed : IsErrOf answer Failed ↔ IsSome book.fault
+  pub not_waiting : IsErrOf answer NotWaiting
+      ↔ Runs book (λ node. IsKeptWaiting (resource_at node name) client → ⊥)
+  pub clock_full : IsErrOf answer ClockFull
+      ↔ Runs book (λ node. IsKeptWaiting (resource_at node name) client × (HasClock book (Cancel client name) → ⊥))
+  pub allowed : IsOkUnless answer Memory
+      ↔ Runs book (λ node. IsKeptWaiting (resource_at node name) client × HasClock book (Cancel client name))
+
+-- a cancel is refused for this cause, as `Book::cancel` says
+abbrev pub RefusesCancel : BookState → ℕ → List ℕ → BookError → Type 0
+RefusesCancel book client name refused = AnswersCancel {T = Posted} book client name (Err refused)
+
 -- bytes that come are answered as `Book::receive` says
 pub record AnswersReceive {T : Type 0} (book : BookState) (bytes : List ℕ) (answer : Result T BookError) : Type 0 where
   pub failed : IsErrOf answer Failed ↔ IsSome book.fault
-  pub frame : (fault : FrameError) → IsErrOf answer (error.Frame fault) ↔ ((book.fault ≡ None) × (first_fault bytes ≡ Some fault))
+  pub frame : (fault : FrameError) → IsErrOf answer (error.Frame fault)
+      ↔ ((book.fault ≡ None) × (first_fault bytes ≡ Some fault))
   pub wrong_node : IsErrOf answer WrongNode ↔ ReadsFrame book bytes (λ f. to_of f.message ≢ book.me)
   pub stranger : IsErrOf answer Stranger
-      ↔ ReadsFrame book bytes (λ f. (to_of f.message ≡ book.me) × ((from_of f.message ≡ book.me) ⊎ (book.nodes < from_of f.message)))
+      ↔ ReadsFrame book bytes (λ f. (to_of f.message ≡ book.me)
+      × ((from_of f.message ≡ book.me) ⊎ (book.nodes < from_of f.message)))
   pub clock_full : IsErrOf answer ClockFull
       ↔ ReadsFrame book bytes (λ f. IsForNode book.me book.nodes f.message × (HasClock book (Receive f) → ⊥))
   pub allowed : IsOkUnless answer Memory
@@ -161,8 +196,10 @@ abbrev pub NotAccepted : ℕ → ℕ → ℕ → List ℕ → BookError → Type
 NotAccepted me nodes clock bytes (error.Frame fault) = first_fault bytes ≡ Some fault
 NotAccepted me nodes clock bytes WrongNode = (f : Frame) × IsFrameText bytes f × (to_of f.message ≢ me)
 NotAccepted me nodes clock bytes Stranger =
-    (f : Frame) × IsFrameText bytes f × (to_of f.message ≡ me) × ((from_of f.message ≡ me) ⊎ (nodes < from_of f.message))
-NotAccepted me nodes clock bytes ClockFull = (f : Frame) × IsFrameFor me nodes bytes f × (2 ^ 62 < clock_after clock (Receive f))
+    (f : Frame) × IsFrameText bytes f × (to_of f.message ≡ me)
+    × ((from_of f.message ≡ me) ⊎ (nodes < from_of f.message))
+NotAccepted me nodes clock bytes ClockFull =
+    (f : Frame) × IsFrameFor me nodes bytes f × (2 ^ 62 < clock_after clock (Receive f))
 NotAccepted me nodes clock bytes Failed = ⊥
 NotAccepted me nodes clock bytes Busy = ⊥
 NotAccepted me nodes clock bytes Exhausted = ⊥
@@ -170,10 +207,11 @@ NotAccepted me nodes clock bytes NotHeld = ⊥
 NotAccepted me nodes clock bytes NotWaiting = ⊥
 NotAccepted me nodes clock bytes Memory = ⊥
 
--- bytes are accepted at this one of this many nodes, after this clock, as a frame for it with the clock after it; or they
--- are not accepted
+-- bytes are accepted at this one of this many nodes, after this clock, as a frame for it with the clock after it; or
+-- they are not accepted
 pub record IsAccepted (me nodes clock : ℕ) (bytes : List ℕ) (answer : Result (Frame × ℕ) BookError) : Type 0 where
-  pub accepted : IfOk answer (λ h. IsFrameFor me nodes bytes h.0 × (h.1 ≡ clock_after clock (Receive h.0)) × (h.1 ≤ 2 ^ 62))
+  pub accepted : IfOk answer
+      (λ h. IsFrameFor me nodes bytes h.0 × (h.1 ≡ clock_after clock (Receive h.0)) × (h.1 ≤ 2 ^ 62))
   pub refused : IfErr answer (NotAccepted me nodes clock bytes)
   pub one_text : (a b : Frame) → IsFrameText bytes a → IsFrameText bytes b → a ≡ b
   pub no_fault : (f : Frame) (fault : FrameError) → IsFrameText bytes f → first_fault bytes ≡ Some fault → ⊥
@@ -191,7 +229,8 @@ pub record IsFirstAt (sent : List Sent) (frame : Frame) (place : ℕ) : Type 0 w
   pub first : (k : ℕ) (d : Sent) → k < place → (slice_index_or sent k d).frame ≢ frame
 
 -- how the first of the sent frames that is equal to this one is flagged
-pub record IsFlagged (old : List Sent) (frame : Frame) (new : List Sent) (answer : Result (Unit {0}) MarkLostError) : Type 0 where
+pub record IsFlagged (old : List Sent) (frame : Frame) (new : List Sent) (answer : Result (Unit {0}) MarkLostError)
+    : Type 0 where
   pub ok : OnOk answer (Loses old frame new)
   pub not_sent : IsErrOf answer NotSent ↔ All (λ s. s.frame ≢ frame) old
   pub already_lost : IsErrOf answer AlreadyLost ↔ IsFirst old frame true
@@ -204,17 +243,21 @@ pub record IsFlagged (old : List Sent) (frame : Frame) (new : List Sent) (answer
 -- A book that keeps a history goes on keeping it at each event of its node. The event sends few frames, and they fit if
 -- the frame that came does. The book's frames ascend by clock.
 pub record KeptHistoriesGoOn : Type 0 where
-  pub opened : (me n start : ℕ) → IsNodeNumber n → (1 ≤ me) × (me ≤ n) → Keeps (opening_book me n start) (opening_node me n start)
+  pub opened : (me n start : ℕ) → IsNodeNumber n → (1 ≤ me) × (me ≤ n)
+      → Keeps (opening_book me n start) (opening_node me n start)
   pub event : (book : BookState) (old new : NodeState) (kind : BookKind) (sends : List Message) (marks : List Mark)
-      → Keeps book old → IsForThisNode old (node_event kind) → NodeEvent old (node_event kind) sends marks new → HasClock book kind
+      → Keeps book old → IsForThisNode old (node_event kind) → NodeEvent old (node_event kind) sends marks new
+      → HasClock book kind
       → Keeps (with_event book (next_clock book kind) kind (frames_at (next_clock book kind) sends)) new
   pub flags : (book : BookState) (sent : List Sent) (node : NodeState)
-      → Keeps book node → map (λ s. s.frame) sent ≡ map (λ s. s.frame) book.sent → Keeps (record book { sent = sent }) node
+      → Keeps book node → map (λ s. s.frame) sent ≡ map (λ s. s.frame) book.sent
+      → Keeps (record book { sent = sent }) node
   pub few : (book : BookState) (old new : NodeState) (kind : BookKind) (sends : List Message) (marks : List Mark)
       → Keeps book old → NodeEvent old (node_event kind) sends marks new
       → length sends ≤ sends_by book.nodes kind
   pub fit : (book : BookState) (old new : NodeState) (kind : BookKind) (sends : List Message) (marks : List Mark)
-      → Keeps book old → IsForThisNode old (node_event kind) → NodeEvent old (node_event kind) sends marks new → HasClock book kind
+      → Keeps book old → IsForThisNode old (node_event kind) → NodeEvent old (node_event kind) sends marks new
+      → HasClock book kind
       → ((frame : Frame) → kind ≡ Receive frame → Fits frame) → All Fits (frames_at (next_clock book kind) sends)
   pub node : (book : BookState) (node : NodeState) → Keeps book node
       → (node.me ≡ book.me) × (node.nodes ≡ book.nodes) × IsConsistentNode node

@@ -13,8 +13,8 @@ use Rattle.ra_frame.specs.declared.frame.Frame.{Frame}
 use Rattle.ra_book.specs.declared.book.event.BookEvent.{BookEvent}
 use Rattle.ra_book.specs.Settled.{received_among}
 
--- All of a request or of a message: its number, the node that asks or sends, the client that asks or the node that it is for, the
--- number of the mode, and the name.
+-- All of a request or of a message: its number, the node that asks or sends, the client that asks or the node that is
+-- to get it, the number of the mode, and the name.
 abbrev pub OrderKey : Type 0
 OrderKey = ℕ × ℕ × ℕ × ℕ × List ℕ
 

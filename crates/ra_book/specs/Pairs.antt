@@ -31,7 +31,7 @@ pub record PairsFit (books : List BookState) : Type 0 where
 abbrev pub not_come : BookState → BookState → List Frame
 not_come other at = drop (length (come_from other.me at)) (sent_to at.me other)
 
--- the message is that of a frame that one of the nodes sent to another one and that has not come there
+-- one of the nodes sent a frame with this message to another one, and it has not come there
 abbrev pub HasNotCome : List BookState → Message → Type 0
 HasNotCome books message = Any (λ at. Any (λ other. (at.me ≢ other.me)
     × Contains (map (λ f. f.message) (not_come other at)) message) books) books

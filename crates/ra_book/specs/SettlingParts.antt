@@ -26,7 +26,7 @@ use Rattle.ra_book.specs.Repeats.{AreWithCopies, IsSettledRunWithCopies, frames_
 abbrev pub FramesAreFromTheirNodes : Type 0
 FramesAreFromTheirNodes = (book : BookState) → HasHistory book → All (λ s. from_of s.frame.message ≡ book.me) book.sent
 
--- a run whose steps are those of books in the settled order, and then their losses, is a settled run of these books
+-- a run that has the steps of books in the settled order, and then their losses, is a settled run of these books
 abbrev pub StepsMakeSettledRuns : Type 0
 StepsMakeSettledRuns = (books : List BookState) (placed : List Placed) (moves : List Move)
     → IsCluster books → All HasHistory books → IsSettledOrder books placed
@@ -39,8 +39,8 @@ FittingBooksSettle = (books : List BookState) (placed : List Placed)
     → IsCluster books → All HasHistory books → IsSettledOrder books placed
     → BooksFit books → WorldRun (length books) (start_of books) (settled_steps books placed)
 
--- the steps of books to which only frames came that were sent, in the settled order and with copies, are a run; and each
--- run that has them is a settled run with copies
+-- If only frames came that were sent, the steps of the books, in the settled order and with copies, are a run. Each run
+-- that has them is a settled run with copies.
 pub record BooksSettleWithCopies : Type 0 where
   pub runs : (books : List BookState) (placed : List Placed) (all : List Step)
       → IsCluster books → All HasHistory books → IsSettledOrder books placed → (HasUnsent books → ⊥)
@@ -82,7 +82,7 @@ RefusesRepeats grants GrantMissing = ⊥
 RefusesRepeats grants GrantTwice = Repeats grants
 RefusesRepeats grants Memory = Unit {0}
 
--- these steps were run: the report is that of a run of as many nodes as there are books
+-- these steps were run, with as many nodes as there are books, and this is the report
 pub record HasRun (books : List BookState) (steps : List Step) (settled : Settled) : Type 0 where
   pub steps_are : settled.steps.items ≡ steps
   pub moves : List Move
@@ -91,8 +91,8 @@ pub record HasRun (books : List BookState) (steps : List Step) (settled : Settle
   pub reports : Reports (length books) (start_of books) moves settled.report
   pub main : MainTheorem (length books) settled.report
 
--- the books are settled: the steps are theirs in the settled order and then the losses, and the report is that of a
--- settled run
+-- the books are settled: the steps are theirs in the settled order and then the losses, and the report is of a settled
+-- run
 pub record SettlesBooks (books : List BookState) (settled : Settled) : Type 0 where
   pub histories : All HasHistory books
   pub placed : List Placed
@@ -125,7 +125,7 @@ Refuses books grants Memory = HasUnsent books → ⊥
 abbrev pub HasCome : BTreeSet FrameKey → List Placed → Type 0
 HasCome set placed = HasKeys set (map (λ f. frame_key f) (frames_by placed))
 
--- the books are settled, with copies: the report is that of a settled run with copies
+-- the books are settled, with copies: the report is of a settled run with copies
 pub record SettlesWithCopies (books : List BookState) (settled : Settled) : Type 0 where
   pub moves : List Move
   pub moves_are : map (λ move. move.step) moves ≡ settled.steps.items

@@ -1,4 +1,4 @@
--- A node and its clock, and what an event makes of them. Nothing else is kept.
+-- A node and its clock, and how an event changes them. Nothing else is kept.
 use Rattle.std.specs.Prelude.{◌≡◌, ℕ, ◌≤◌, ◌^◌, List, [], ◌∷◌, All, refl}
 use Rattle.std.specs.Coded.{Coded, code_by, coded×, coded_ℕ}
 use Rattle.ra_stamp.specs.declared.entry.Mark.{Mark}
@@ -20,7 +20,9 @@ pub record Timed : Type 0 where
 
 -- it is stored as its fields
 abbrev pub timed_code : Coded NodeState → Coded Timed
-timed_code node = code_by (NodeState × ℕ) (coded× node coded_ℕ) (λ t. (t.node, t.clock)) (λ p. record { node = p.0; clock = p.1 }) (λ _. refl)
+timed_code node =
+    code_by (NodeState × ℕ) (coded× node coded_ℕ) (λ t. (t.node, t.clock)) (λ p. record { node = p.0; clock = p.1 })
+    (λ _. refl)
 
 -- a node that has met nothing
 abbrev pub opening : ℕ → ℕ → ℕ → Timed
@@ -45,7 +47,8 @@ pub record Takes (old : Timed) (kind : BookKind) (sends : List Message) (marks :
 abbrev pub TakesEach : Timed → List Posting → Timed → Type 0
 TakesEach old [] new = new ≡ old
 TakesEach old (p ∷ postings) new =
-    (next : Timed) × Takes old p.event.kind p.sends p.marks next × (next.clock ≡ p.event.clock) × TakesEach next postings new
+    (next : Timed) × Takes old p.event.kind p.sends p.marks next × (next.clock ≡ p.event.clock)
+    × TakesEach next postings new
 
 -- a frame that comes fits, as each frame does that is read
 abbrev pub CanCome : BookKind → Type 0

@@ -375,7 +375,7 @@ impl Book {
         flag_lost(self.sent.as_mut_slice(), frame)
     }
 
-    /// Returns whether the node sent this frame and it is not flagged lost. The cost is that of `mark_lost`.
+    /// Returns whether the node sent this frame and it is not flagged lost. It costs what `mark_lost` costs.
     pub(crate) fn has_kept(&self, frame: &Frame) -> bool
         ensures { IsTrue result ↔ Contains self.now.sent (record { frame = frame.now; lost = false }) }
     {

@@ -5,7 +5,7 @@
 //! they do not settle. Nothing here knows of threads: `ra_site` shares books among threads, and `ra_book_text` writes
 //! them as text.
 //!
-//! The event clock is that of L. Lamport, CACM 21(7), 1978.
+//! The event clock is from L. Lamport, CACM 21(7), 1978.
 #![tactic(auto)]
 
 mod book;

@@ -24,8 +24,8 @@ use crate::{Book, Grant, SettleError, Settled};
 use ra_world::{RunError, Steps, run};
 use std::alloc::Global;
 
-/// Returns whether the books are those of nodes 1 to n, in order, each of n nodes and all from one start, and nothing
-/// was taken from them. An empty list is not a cluster. It does not allocate, and the cost is linear in the number of
+/// Returns whether the books belong to nodes 1 to n, in order, each of n nodes and all from one start, and nothing was
+/// taken from them. An empty list is not a cluster. It does not allocate, and the cost is linear in the number of
 /// books.
 pub fn is_cluster(books: &[Book]) -> bool
     ensures { IsTrue result ↔ IsCluster books.now }
@@ -43,7 +43,7 @@ pub fn is_cluster(books: &[Book]) -> bool
     true
 }
 
-/// Returns whether a book is that of the node with this place, counted from 0, of this many nodes and from this start,
+/// Returns whether a book belongs to the node with this place, counted from 0, of this many nodes and from this start,
 /// and nothing was taken from it.
 fn is_member(book: &Book, place: usize, count: usize, start: u64) -> bool
     ensures { IsTrue result
@@ -55,13 +55,13 @@ fn is_member(book: &Book, place: usize, count: usize, start: u64) -> bool
         && book.is_whole()
 }
 
-/// Settles the books of a cluster into one run of it: the events of all books by clock, and those of one clock by node,
-/// and then the loss of each frame that is flagged lost, by node and then in order of sending. So what [`run`] says of
-/// its steps holds of what happened at the nodes. Books settle, unless memory runs out, exactly if none of the first
-/// four errors below holds. With n events and frames sent, m grants and k books the cost is that of the run, plus n log
-/// n, m log m and k n. That of the run is linear in n, on average. If there was no memory to know the clients of a long
-/// queue, each ask looks through its name's queue, too. If there was none for an index of the messages under way, each
-/// frame that came looks through those under way.
+/// Settles the books of a cluster into one run of it: the events of all books, by clock and then by node, and then the
+/// loss of each frame that is flagged lost, by node and then in order of sending. So what [`run`] says of its steps
+/// holds of what happened at the nodes. Unless memory runs out, books settle exactly if none of the first four errors
+/// below holds. With n events and frames sent, m grants and k books, the cost is that of the run, plus n log n, m log m
+/// and k n. The run takes time linear in n, on average. If there was no memory to know the clients of a long queue,
+/// each ask looks through its name's queue, too. If there was none for an index of the messages under way, each frame
+/// that came looks through them.
 ///
 /// # Errors
 ///
@@ -75,7 +75,7 @@ fn is_member(book: &Book, place: usize, count: usize, start: u64) -> bool
 /// 5. `Memory`, which may come before any of them but `NotSent`.
 pub fn settle(alloc: Global, books: &[Book], grants: &[Grant]) -> Result<Settled, SettleError>
     requires { IsCluster books.now }
-    // The steps are a settled run, and the report is that of the run.
+    // The steps are a settled run, and the report is of this run.
     ensures settled_run { IfOk result (λ settled. (moves : List Move)
         × (map (λ move. move.step) moves ≡ settled.steps.items)
         × IsSettledRun books.now moves × Reports (length books.now) (start_of books.now) moves settled.report) }

@@ -51,14 +51,14 @@ impl TimedNode {
         self.clock
     }
 
-    /// Makes an event happen: the node takes it, and its clock goes on. Returns what the event sends and marks. The
-    /// cost is that of the node's call.
+    /// Makes an event happen: the node takes it, and its clock goes on. Returns what the event sends and marks. It
+    /// costs what the node's call costs.
     ///
     /// # Errors
     ///
     /// The first that holds, and the node is as before:
     ///
-    /// 1. `Busy`, `Exhausted`, `NotHeld`, `NotWaiting`, `WrongNode`, `Stranger`: those of the node's call.
+    /// 1. `Busy`, `Exhausted`, `NotHeld`, `NotWaiting`, `WrongNode`, `Stranger`: the node's call refuses it.
     /// 2. `ClockFull`: the clock would pass 2^62.
     /// 3. `Memory`: the call can be made again.
     pub fn take(&mut self, alloc: Global, kind: &BookKind) -> Result<Outcome, BookError>

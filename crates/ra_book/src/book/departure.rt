@@ -7,8 +7,8 @@ use ra_node::Outcome;
 use ra_stamp::Memory;
 use std::alloc::Global;
 
-/// What a leave or a cancel needs, made when its client asks: an outcome and a list of frames, both empty, with room for
-/// all that it sends and marks.
+/// What a leave or a cancel needs, made when its client asks: an outcome and a list of frames. Both are empty and have
+/// room for all that it sends and marks.
 #[derive(Drop)]
 pub struct Departure {
     /// For what the node sends and marks.

@@ -19,7 +19,7 @@ pub enum BookKind {
 /// An event of a node, and its clock (L. Lamport, CACM 21(7), 1978).
 #[derive(Clone, Copy, Debug, PartialEq, Eq)]
 pub struct BookEvent {
-    /// 1 to 2^62, and above that of each earlier event of the node.
+    /// 1 to 2^62, and above the clock of each earlier event of the node.
     pub clock: u64,
     /// What happened.
     pub kind: BookKind,

@@ -9,8 +9,8 @@ use crate::{Events, Frames, Sent};
 use ra_stamp::{Memory, Message, Sequence};
 use std::alloc::Global;
 
-/// Makes room for an ask at one of this many nodes, and for the leaves after it, among them that of the client that
-/// asks. Returns a list for the frames that the ask posts, and what the client's leave will need.
+/// Makes room for an ask at one of this many nodes, and for the leaves after it, also by the client that asks. Returns
+/// a list for the frames that the ask posts, and what the client's leave will need.
 ///
 /// # Errors
 ///

@@ -8,7 +8,7 @@ use ra_frame::Frame;
 use ra_stamp::{Message, NodeId};
 
 /// Returns the place of the first sent frame that is equal to this one, or `None`. The cost is logarithmic in the
-/// number of the sent frames, and linear in how many of them have its clock, which are those of one event.
+/// number of the sent frames, and linear in how many of them have its clock. One event sent all of these.
 pub fn place_of(sent: &[Sent], frame: &Frame) -> Option<usize>
     requires { Ascends sent.now }
     ensures { MatchOption result (All (λ s. s.frame ≢ frame.now) sent.now) (IsFirstAt sent.now frame.now) }
@@ -25,9 +25,9 @@ pub fn place_of(sent: &[Sent], frame: &Frame) -> Option<usize>
     None
 }
 
-/// Returns whether this frame is among those that were sent, and not flagged lost. If the frames of one clock are in
-/// the order of [`rank_of`], as those of an event of a node are, the cost of a frame that is there is logarithmic in
-/// the number of the sent frames. Otherwise it is that of [`place_of`].
+/// Returns whether this frame is among those that were sent, and not flagged lost. A node sends the frames of one clock
+/// in the order of [`rank_of`]. If all are so and the frame is there, the cost is logarithmic in the number of the sent
+/// frames. Otherwise it is the cost of [`place_of`].
 pub fn is_kept(sent: &[Sent], frame: &Frame) -> bool
     requires { Ascends sent.now }
     ensures { IsTrue result ↔ Contains sent.now (record { frame = frame.now; lost = false }) }
@@ -66,7 +66,7 @@ fn place_before(sent: &[Sent], clock: u64, rank: u16) -> usize
     )
 }
 
-/// Returns which one of the messages of an event a message is: each REPLY comes before each REQUEST, and those of one
+/// Returns a message's rank among the messages of its event: each REPLY comes before each REQUEST, and messages of one
 /// kind ascend by the node that they are for.
 fn rank_of(message: &Message) -> u16 {
     match *message {

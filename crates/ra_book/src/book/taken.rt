@@ -30,7 +30,7 @@ impl Model for Taken {
 }
 
 impl Taken {
-    /// Makes that of a book from which nothing was taken.
+    /// Begins for a book from which nothing was taken.
     pub fn nothing() -> Taken
         ensures { result ≡ nothing_taken }
     {

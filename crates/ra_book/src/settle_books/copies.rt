@@ -95,11 +95,11 @@ fn run_with_copies(alloc: Global, books: &[Book]) -> Result<Settled, SettleError
 }
 
 /// Settles the books of a cluster, none of whose frames is flagged lost, into one run of it, also if frames came more
-/// than once. The run has the events of all books by clock, and those of one clock by node. If an event gets a frame
-/// that comes again later, a repeat of the frame's message is directly before that event. So a frame that comes n times
-/// is repeated n - 1 times. Two frames are two also if they carry one message, with two clocks. Books settle, unless
-/// memory runs out, exactly if each frame that came was sent. With n events and frames sent and k books the cost is
-/// that of the run, plus n log n and k n; memory is linear in n.
+/// than once. The run has the events of all books by clock, and then by node. If an event gets a frame that comes again
+/// later, a repeat of the frame's message is directly before that event. So a frame that comes n times is repeated
+/// n - 1 times. Frames with two clocks are two frames, even if they carry the same message. Unless memory runs out,
+/// books settle exactly if each frame that came was sent. With n events and frames sent and k books, the cost is that
+/// of the run, plus n log n and k n; memory is linear in n.
 ///
 /// # Errors
 ///
@@ -108,7 +108,7 @@ fn run_with_copies(alloc: Global, books: &[Book]) -> Result<Settled, SettleError
 pub fn settle_with_copies(alloc: Global, books: &[Book]) -> Result<Settled, SettleError>
     requires cluster { IsCluster books.now }
     requires lossless { all_lost books.now ≡ [] }
-    // The steps are a settled run with copies, and the report is that of the run.
+    // The steps are a settled run with copies, and the report is of this run.
     ensures settled_run { IfOk result (λ settled. (moves : List Move)
         × (map (λ move. move.step) moves ≡ settled.steps.items)
         × IsSettledRunWithCopies books.now moves

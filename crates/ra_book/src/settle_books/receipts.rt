@@ -10,9 +10,9 @@ use ra_stamp::Memory;
 use std::alloc::Global;
 use std::collections::BTreeSet;
 
-/// Checks that each frame that came was sent and not lost, and that no message came twice. The frames that a book sent
-/// ascend by clock, and a node sends those of one event in order, so that the cost of each that came is logarithmic.
-/// The messages are in a set, so that the cost of each is logarithmic, too.
+/// Checks that each frame that came was sent and not lost, and that no message came twice. To find a frame takes
+/// logarithmic time, since the frames of a book ascend by clock and a node sends the frames of one event in order. To
+/// find a message does, too, since the messages are in a set.
 ///
 /// # Errors
 ///
@@ -53,7 +53,7 @@ pub fn were_sent(books: &[Book]) -> bool
 }
 
 /// Returns whether the books of a cluster have a frame as one that its sender sent: with this clock and message, and
-/// not flagged lost. It does not allocate. The cost is that of [`Book::mark_lost`].
+/// not flagged lost. It does not allocate. It costs what [`Book::mark_lost`] costs.
 pub fn was_sent(books: &[Book], frame: &Frame) -> bool
     requires { IsCluster books.now }
     ensures { IsTrue result ↔ WasSent books.now frame.now }
