@@ -20,8 +20,8 @@ use std::process::Abort;
 use test_support::{At, Tried, again, assert_grown, assert_memory, both, entry, id, part, r, row};
 
 /// Node 1 enters first, then node 2, and then the REQUEST of node 1 is repeated and lost. Its copy is repeated so often
-/// that no room is left for one more.
-const LINES: [&str; 18] = [
+/// that no room is left for one more. The client gives up, and the node forgets names.
+const LINES: [&str; 20] = [
     "ask 1 1 r X",
     "ask 2 1 r X",
     "deliver request 1 2 r X 1",
@@ -40,6 +40,8 @@ const LINES: [&str; 18] = [
     "repeat request 1 2 r X 2",
     "repeat request 1 2 r X 2",
     "repeat request 1 2 r X 2",
+    "cancel 1 1 r",
+    "forget 1",
 ];
 
 /// Makes a step. If it is refused, memory ran out.
@@ -112,8 +114,9 @@ fn try_report(rt: &(impl Abort + AllocGlobal), world: &World) -> Result<Tried, M
     match report_of(rt.alloc(), world) {
         Some(report) => {
             let (marks, at) = (report.marks.len(), row("the report of all steps"));
-            assert_same(rt, at, &marks, &7);
-            assert_same(rt, at, &totals(&report), &[3, 5, 8, 1, 8, 1, 0]);
+            assert_same(rt, at, &marks, &8);
+            assert_same(rt, at, &totals(&report), &[3, 5, 8, 1, 8, 0, 0]);
+            assert_same(rt, at, &report.withdrawn, &1);
             Ok(Tried::NoFailure)
         }
         None => Err(Memory),
