@@ -17,7 +17,8 @@ abbrev pub IsFault : List Op → Op → AddOpError → Type 0
 IsFault ops op Clients = ⊥
 IsFault ops op Limit = 1024 ≤ length ops
 IsFault ops op NotHeld = (length ops < 1024) × (name : List ℕ) × (op ≡ Unlock name) × (IsHeldAfter ops name → ⊥)
-IsFault ops op AlreadyHeld = (length ops < 1024) × (name : List ℕ) × (mode : Mode) × (op ≡ Lock name mode) × IsHeldAfter ops name
+IsFault ops op AlreadyHeld =
+    (length ops < 1024) × (name : List ℕ) × (mode : Mode) × (op ≡ Lock name mode) × IsHeldAfter ops name
 IsFault ops op Memory = ⊥
 
 -- the same, or memory ran out for an operation that fits

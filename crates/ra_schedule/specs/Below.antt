@@ -24,7 +24,9 @@ pub record LawsBelow : Type 0 where
       → (message : Message) → GoesOn n start moves (Repeat message) ↔ IsUnderWay moves message
   pub ask_stays : (n start : ℕ) (moves : List Move) (move : Move) → IsNodeNumber n → IsRun n start (moves ++ move ∷ [])
       → (node client : ℕ) (name : List ℕ) (mode : Mode) → events_at node move.step ≡ []
-      → GoesOn n start moves (Ask node client name mode) ↔ GoesOn n start (moves ++ move ∷ []) (Ask node client name mode)
-  pub leave_stays : (n start : ℕ) (moves : List Move) (move : Move) → IsNodeNumber n → IsRun n start (moves ++ move ∷ [])
+      → GoesOn n start moves (Ask node client name mode)
+      ↔ GoesOn n start (moves ++ move ∷ []) (Ask node client name mode)
+  pub leave_stays : (n start : ℕ) (moves : List Move) (move : Move) → IsNodeNumber n
+      → IsRun n start (moves ++ move ∷ [])
       → (node client : ℕ) (name : List ℕ) → events_at node move.step ≡ []
       → GoesOn n start moves (Leave node client name) ↔ GoesOn n start (moves ++ move ∷ []) (Leave node client name)

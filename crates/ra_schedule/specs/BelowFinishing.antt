@@ -22,18 +22,21 @@ use Rattle.ra_world.specs.Quiet.{IsQuiet, IsBlocked, requests_in, withdrawn_in}
 
 -- the laws of the events of a node, on which the laws on how scripts end depend
 pub record LawsOfNodes : Type 0 where
-  pub opens : (me nodes start : ℕ) → IsNodeNumber nodes → (1 ≤ me) × (me ≤ nodes) → IsConsistentNode (opening_node me nodes start)
+  pub opens : (me nodes start : ℕ) → IsNodeNumber nodes → (1 ≤ me) × (me ≤ nodes)
+      → IsConsistentNode (opening_node me nodes start)
   pub consistent : (old new : NodeState) (event : Event) (sends : List Message) (marks : List Mark)
       → IsConsistentNode old → IsForThisNode old event → NodeEvent old event sends marks new → IsConsistentNode new
   pub one_request : (old new : NodeState) (event : Event) (sends : List Message) (marks : List Mark)
       → NodeEvent old event sends marks new
-      → MarksLead (use_of (resource_at old (name_of_event event))) marks (use_of (resource_at new (name_of_event event)))
+      → MarksLead (use_of (resource_at old (name_of_event event))) marks
+      (use_of (resource_at new (name_of_event event)))
   pub other_names : (old new : NodeState) (event : Event) (sends : List Message) (marks : List Mark) (other : List ℕ)
       → NodeEvent old event sends marks new → IsNamed event → other ≢ name_of_event event
       → resource_at new other ≡ resource_at old other
   pub same_node : (old new : NodeState) (event : Event) (sends : List Message) (marks : List Mark)
       → NodeEvent old event sends marks new → (new.me ≡ old.me) × (new.nodes ≡ old.nodes) × (old.start ≤ new.start)
-  pub one_end : (old a b : NodeState) (happened : List Happening) → NodeEvents old happened a → NodeEvents old happened b → a ≡ b
+  pub one_end : (old a b : NodeState) (happened : List Happening) → NodeEvents old happened a
+      → NodeEvents old happened b → a ≡ b
   pub splits : (prefix rest : List Happening) (a c : NodeState) → NodeEvents a (prefix ++ rest) c
       → (b : NodeState) × NodeEvents a prefix b × NodeEvents b rest c
 
@@ -47,7 +50,8 @@ pub record LawsOfRuns : Type 0 where
   pub may_ask : (n start : ℕ) (moves : List Move) (nodes : ℕ → NodeState)
       → IsNodeNumber n → IsRun n start moves → EndsWith n start moves nodes
       → (node client : ℕ) (name : List ℕ) (mode : Mode)
-      → GoesOn n start moves (Ask node client name mode) ↔ (((1 ≤ node) × (node ≤ n)) × MayAsk (resource_at (nodes node) name) client)
+      → GoesOn n start moves (Ask node client name mode)
+      ↔ (((1 ≤ node) × (node ≤ n)) × MayAsk (resource_at (nodes node) name) client)
   pub may_leave : (n start : ℕ) (moves : List Move) (nodes : ℕ → NodeState)
       → IsNodeNumber n → IsRun n start moves → EndsWith n start moves nodes
       → (node client : ℕ) (name : List ℕ)
@@ -73,6 +77,7 @@ pub record LawsOfRuns : Type 0 where
       → length (sent_by moves) ≤ 2 * (n - 1) * requests_in (marks_of moves) + length (repeated_by moves)
   pub asks : (n start : ℕ) (moves : List Move) (nodes : ℕ → NodeState)
       → IsNodeNumber n → IsRun n start moves → EndsWith n start moves nodes
-      → requests_in (marks_of moves) + queued_at_all n nodes + cancels_by moves ≡ asks_by moves + withdrawn_in (marks_of moves)
+      → requests_in (marks_of moves) + queued_at_all n nodes + cancels_by moves
+      ≡ asks_by moves + withdrawn_in (marks_of moves)
   pub withdrawn : (n start : ℕ) (moves : List Move) → IsNodeNumber n → IsRun n start moves
       → withdrawn_in (marks_of moves) ≤ cancels_by moves

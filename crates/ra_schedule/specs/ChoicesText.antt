@@ -37,7 +37,8 @@ choice_of (letter ∷ digits) = if is_decimal digits then choice_with letter (de
 -- the choices that words spell, if each word spells one
 abbrev pub choices_in : List (List ℕ) → Option (List Choice)
 choices_in [] = Some []
-choices_in (word ∷ words) = option_and_then (λ choice. option_map (λ choices. choice ∷ choices) (choices_in words)) (choice_of word)
+choices_in (word ∷ words) =
+    option_and_then (λ choice. option_map (λ choices. choice ∷ choices) (choices_in words)) (choice_of word)
 
 -- the choices of a text: the choices of the words between its spaces, and no choices if it is empty
 abbrev pub choices_of : List ℕ → Option (List Choice)

@@ -19,14 +19,16 @@ use Rattle.ra_schedule.specs.Listing.{AreChoicesBy, AreChoicesOf}
 -- The moves are all that the policy chose until no choice was left, within the limit. This is the report of their run,
 -- of which the main theorem holds, and whether the run is finished. It is if the policy chooses by itself and loses no
 -- message, and each client takes names in ascending order and gives them all back.
-pub record IsWholeRun (script : ScriptState) (policy : Policy) (limit : ℕ) (moves : List Move) (report : Report) (finished : Bool) : Type 0 where
+pub record IsWholeRun (script : ScriptState) (policy : Policy) (limit : ℕ) (moves : List Move) (report : Report)
+    (finished : Bool) : Type 0 where
   pub follows : Follows script policy moves
   pub ends : Ends script policy moves
   pub within : length moves ≤ limit
   pub reports : Reports script.nodes 0 moves report
   pub main_theorem : MainTheorem script.nodes report
   pub finished_is : IsTrue finished ↔ IsFinished script (steps_of moves) report
-  pub waiting_ends : ChoosesItself policy → LosesNothing policy → (IsOutOfOrder script → ⊥) → (IsUnreleased script → ⊥) → IsTrue finished
+  pub waiting_ends : ChoosesItself policy → LosesNothing policy → (IsOutOfOrder script → ⊥) → (IsUnreleased script → ⊥)
+      → IsTrue finished
 
 -- the record of such a run: its steps, and its choices, which are the policy's and by themselves make the run again
 pub record IsRecording (script : ScriptState) (policy : Policy) (limit : ℕ) (recording : Recording) : Type 0 where
@@ -42,8 +44,8 @@ pub record IsSummary (script : ScriptState) (policy : Policy) (limit : ℕ) (sum
   pub run : IsWholeRun script policy limit moves summary.report summary.finished
   pub turns : summary.turns ≡ length moves
 
--- What the policy made of the script until no choice was left, or until one was refused: the report of these moves, of which the main
--- theorem holds, how many they are, and why no other one follows.
+-- What the policy made of the script until no choice was left, or until one was refused: the report of these moves, of
+-- which the main theorem holds, how many they are, and why no other one follows.
 pub record IsDrivenPart (script : ScriptState) (policy : Policy) (limit : ℕ) (part : DrivenPart) : Type 0 where
   pub moves : List Move
   pub follows : Follows script policy moves
@@ -55,23 +57,27 @@ pub record IsDrivenPart (script : ScriptState) (policy : Policy) (limit : ℕ) (
 
 -- A refusal other than `Memory` comes only if its cause applies. If a cause applies, the answer is its refusal or
 -- `Memory`. If none does, so that the policy is followed to its end within the limit, only `Memory` is refused.
-pub record Answers {X : Type 0} (script : ScriptState) (policy : Policy) (limit : ℕ) (result : Result X DriveError) : Type 0 where
+pub record Answers {X : Type 0} (script : ScriptState) (policy : Policy) (limit : ℕ)
+    (result : Result X DriveError) : Type 0 where
   pub refused : (cause : DriveError) → cause ≢ Memory → IsErrOf result cause
       → (moves : List Move) × Follows script policy moves × Stops script policy limit moves cause
-  pub exact : (cause : DriveError) (moves : List Move) → Follows script policy moves → Stops script policy limit moves cause
+  pub exact : (cause : DriveError) (moves : List Move) → Follows script policy moves
+      → Stops script policy limit moves cause
       → IsErrOf result cause ⊎ IsErrOf result Memory
   pub allowed : (moves : List Move) → Follows script policy moves → Ends script policy moves → length moves ≤ limit
       → IsOkUnless result Memory
 
--- A script takes at most `most_turns` under a policy that repeats no message, so a limit above that is never reached. If
--- the policy also chooses by itself, and the limit is at least that, only `Memory` is refused.
-pub record IsInTime {X : Type 0} (script : ScriptState) (policy : Policy) (limit : ℕ) (result : Result X DriveError) : Type 0 where
+-- A script takes at most `most_turns` under a policy that repeats no message, so a limit above that is never reached.
+-- If the policy also chooses by itself, and the limit is at least that, only `Memory` is refused.
+pub record IsInTime {X : Type 0} (script : ScriptState) (policy : Policy) (limit : ℕ)
+    (result : Result X DriveError) : Type 0 where
   pub below_limit : RepeatsNothing policy → most_turns script < limit → IsErrOf result TurnLimit → ⊥
   pub only_memory : RepeatsNothing policy → ChoosesItself policy → most_turns script ≤ limit → IsOkUnless result Memory
 
--- What `drive` and each form of it promise, whatever they make of the run. This is one record, so that none promises less than
--- another.
-pub record Drives {X : Type 0} (script : ScriptState) (policy : Policy) (limit : ℕ) (IsMade : X → Type 0) (result : Result X DriveError) : Type 0 where
+-- What `drive` and each form of it promise, whatever they make of the run. This is one record, so that none promises
+-- less than another.
+pub record Drives {X : Type 0} (script : ScriptState) (policy : Policy) (limit : ℕ) (IsMade : X → Type 0)
+    (result : Result X DriveError) : Type 0 where
   pub ok : IfOk result IsMade
   pub answers : Answers script policy limit result
   pub in_time : IsInTime script policy limit result

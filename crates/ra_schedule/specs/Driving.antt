@@ -52,7 +52,8 @@ pub record IsAtEnd (script : ScriptState) (policy : Policy) (world : WorldState)
   pub choices : KeepsChoices script policy world.moves driver
 
 -- the step of the choice was made, and the choice recorded
-pub record HasTakenStep (script : ScriptState) (choice : Choice) (world : WorldState) (driver : Driver) (next : WorldState) (new : Driver) : Type 0 where
+pub record HasTakenStep (script : ScriptState) (choice : Choice) (world : WorldState) (driver : Driver)
+    (next : WorldState) (new : Driver) : Type 0 where
   pub driven : IsDriven script next new
   pub drawn : generator_in new.random ≡ generator_in driver.random
   pub records : new.records ≡ driver.records
@@ -65,7 +66,8 @@ HasFault script moves choice fault =
     ((fault ≡ BadPlace) × IsBadPlace script moves choice) ⊎ ((fault ≡ NotEnabled) × IsNotEnabled script moves choice)
 
 -- this is the step of a choice, or its fault
-pub record IsMeaning (script : ScriptState) (moves : List Move) (choice : Choice) (meaning : Result Step DriveError) : Type 0 where
+pub record IsMeaning (script : ScriptState) (moves : List Move) (choice : Choice)
+    (meaning : Result Step DriveError) : Type 0 where
   pub ok : IfOk meaning (StandsFor script moves choice)
   pub err : IfErr meaning (HasFault script moves choice)
 
@@ -75,19 +77,23 @@ CannotBeMade script moves choice fault = (fault ≡ Memory) ⊎ HasFault script 
 
 -- after these moves the choice of the policy cannot be made
 abbrev pub IsRefused : ScriptState → Policy → List Move → DriveError → Type 0
-IsRefused script policy moves fault = (choice : Choice) × Picks script policy moves choice × CannotBeMade script moves choice fault
+IsRefused script policy moves fault =
+    (choice : Choice) × Picks script policy moves choice × CannotBeMade script moves choice fault
 
 -- the policy has made this choice, which means this; what it draws by may have changed, and who is looked at first
-pub record HasChosen (script : ScriptState) (policy : Policy) (world : WorldState) (driver chosen : Driver) (picked : Picked) : Type 0 where
+pub record HasChosen (script : ScriptState) (policy : Policy) (world : WorldState) (driver chosen : Driver)
+    (picked : Picked) : Type 0 where
   pub driven : IsDriven script world chosen
   pub picks : Picks script policy world.moves picked.choice
   pub means : IsMeaning script world.moves picked.choice picked.meaning
-  pub drawn : generator_in chosen.random ≡ generator_at policy (words_drawn policy world.moves + words_for policy picked.choice)
+  pub drawn : generator_in chosen.random ≡ generator_at policy
+      (words_drawn policy world.moves + words_for policy picked.choice)
   pub choices : chosen.choices.items ≡ driver.choices.items
 
 -- after these moves the policy has a choice that can be made
 abbrev pub MayGoOn : ScriptState → Policy → List Move → Type 0
-MayGoOn script policy moves = (choice : Choice) × (step : Step) × Picks script policy moves choice × StandsFor script moves choice step
+MayGoOn script policy moves =
+    (choice : Choice) × (step : Step) × Picks script policy moves choice × StandsFor script moves choice step
 
 -- the policy has come this far, a turn is left, and its choice can be made, so what keeps it from going on is not a
 -- fault of the choice
@@ -104,7 +110,8 @@ pub record IsOpened (script : ScriptState) (policy : Policy) (records : Bool) (c
   pub records_as : cluster.driver.records ≡ records
 
 -- the policy has no choice left after at most this many turns, and they are recorded or not
-pub record IsThrough (script : ScriptState) (policy : Policy) (limit : ℕ) (records : Bool) (cluster : DrivenCluster) : Type 0 where
+pub record IsThrough (script : ScriptState) (policy : Policy) (limit : ℕ) (records : Bool)
+    (cluster : DrivenCluster) : Type 0 where
   pub fit : IsScript script
   pub at_end : IsAtEnd script policy cluster.world cluster.driver
   pub within : length cluster.world.moves ≤ limit
@@ -112,10 +119,12 @@ pub record IsThrough (script : ScriptState) (policy : Policy) (limit : ℕ) (rec
 
 -- the policy stops after these moves for lack of memory, or for a cause that applies there
 abbrev pub IsStoppedAfter : ScriptState → Policy → ℕ → List Move → DriveError → Type 0
-IsStoppedAfter script policy limit moves fault = (fault ≡ Memory) ⊎ (Follows script policy moves × Stops script policy limit moves fault)
+IsStoppedAfter script policy limit moves fault =
+    (fault ≡ Memory) ⊎ (Follows script policy moves × Stops script policy limit moves fault)
 
 -- what is recorded of a policy that has no choice left
-pub record Records (script : ScriptState) (policy : Policy) (limit : ℕ) (records : Bool) (driven : Driven) : Type 0 where
+pub record Records (script : ScriptState) (policy : Policy) (limit : ℕ) (records : Bool)
+    (driven : Driven) : Type 0 where
   pub moves : List Move
   pub run : IsWholeRun script policy limit moves driven.summary.report driven.summary.finished
   pub steps : driven.steps.items ≡ recorded records moves

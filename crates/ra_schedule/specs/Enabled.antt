@@ -21,7 +21,8 @@ pub record AreFlags (script : ScriptState) (moves : List Move) (flags : List Boo
 
 -- after some clients were looked at again, each flag is right, or it is as before and its client is one of the others
 abbrev pub AreRightOrKept : ScriptState → List Move → (old new : List Bool) → (IsOther : ℕ → Type 0) → Type 0
-AreRightOrKept script moves old new IsOther = (k : ℕ) (d : Bool) → k < length old → IsFlag script moves (k + 1) (slice_index_or new k d)
+AreRightOrKept script moves old new IsOther =
+    (k : ℕ) (d : Bool) → k < length old → IsFlag script moves (k + 1) (slice_index_or new k d)
     ⊎ ((slice_index_or new k d ≡ slice_index_or old k d) × IsOther (k + 1))
 
 -- the numbers of those whose flag is set, if the first flag is that of this number
@@ -55,5 +56,6 @@ AreNodeClients script node_clients = (client node : ℕ) (d : List ℕ) → node
 
 -- the flags are right for all clients but those at the node of a step and those that entered by its marks
 abbrev pub AreFlagsElsewhere : Step → List Mark → ScriptState → List Move → List Bool → Type 0
-AreFlagsElsewhere step marks script moves flags = (k : ℕ) (d : Bool) → k < length flags → node_of script (k + 1) ≢ node_at step
+AreFlagsElsewhere step marks script moves flags =
+    (k : ℕ) (d : Bool) → k < length flags → node_of script (k + 1) ≢ node_at step
     → All (λ mark. Enters (k + 1) mark → ⊥) marks → IsFlag script moves (k + 1) (slice_index_or flags k d)

@@ -6,7 +6,8 @@ pub record FaultRates : Type 0 where
   pub lose : ℕ
   pub repeat : ℕ
 
--- the two are at most 1,000 together, and at most 400 are repeats, so that on average copies do not multiply without end
+-- the two are at most 1,000 together, and at most 400 are repeats, so that on average copies do not multiply without
+-- end
 pub record AreFaults (faults : FaultRates) : Type 0 where
   pub at_most_all : faults.lose + faults.repeat ≤ 1000
   pub few_repeats : faults.repeat ≤ 400

@@ -15,7 +15,8 @@ is_end Stuck outcome = is_stuck outcome
 
 -- whether a script comes to this end under a policy, within this many turns
 abbrev pub EndsSo : ScriptState → Policy → ℕ → Ending → Bool → Type 0
-EndsSo script policy limit ending holds = (outcome : SeedOutcome) × IsOutcome script policy limit outcome × (is_end ending outcome ≡ holds)
+EndsSo script policy limit ending holds =
+    (outcome : SeedOutcome) × IsOutcome script policy limit outcome × (is_end ending outcome ≡ holds)
 
 -- no seed from the first one on and before this one brings the script to this end
 abbrev pub NoneBefore : ScriptState → Option FaultRates → (limit : ℕ) → Ending → (first seed : ℕ) → Type 0

@@ -9,7 +9,8 @@ use Rattle.ra_schedule.specs.Script.{ScriptState}
 use Rattle.ra_schedule.specs.Schedule.{StandsFor, Picks, Follows, Ends}
 
 -- one choice for each move: what the policy chose before that move, and it means the step of that move
-pub record AreChoicesBy (script : ScriptState) (policy : Policy) (choices : List Choice) (moves : List Move) : Type 0 where
+pub record AreChoicesBy (script : ScriptState) (policy : Policy) (choices : List Choice)
+    (moves : List Move) : Type 0 where
   pub one_each : length choices ≡ length moves
   pub each : (before after : List Move) (move : Move) → moves ≡ before ++ move ∷ after
       → (choice : Choice) × (slice_get choices (length before) ≡ Some choice)

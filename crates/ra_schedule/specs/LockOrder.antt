@@ -52,11 +52,12 @@ pub record LocksBelow (ops : List Op) (since place : ℕ) : Type 0 where
   pub locks : LocksAt ops place name
   pub not_above : IsBelow held name → ⊥
 
--- this place is the first one that locks a name that is not above each name held then; of the names held then that are not
--- below, the one that was locked first was locked at the place `since`
+-- this place is the first one that locks a name that is not above each name held then; of the names held then that are
+-- not below, the one that was locked first was locked at the place `since`
 pub record IsFirstBelow (ops : List Op) (since place : ℕ) : Type 0 where
   pub is : LocksBelow ops since place
-  pub first : (earlier other : ℕ) → LocksBelow ops earlier other → (place < other) ⊎ ((place ≡ other) × (since ≤ earlier))
+  pub first : (earlier other : ℕ) → LocksBelow ops earlier other
+      → (place < other) ⊎ ((place ≡ other) × (since ≤ earlier))
 
 -- a name is locked at this place, and not unlocked after it
 pub record NeverUnlocks (ops : List Op) (place : ℕ) : Type 0 where
@@ -69,8 +70,8 @@ pub record IsFirstNeverUnlocked (ops : List Op) (place : ℕ) : Type 0 where
   pub is : NeverUnlocks ops place
   pub first : (other : ℕ) → NeverUnlocks ops other → place ≤ other
 
--- of the first client that locks out of order, this is the first place where it does so, and the first name held then that
--- is not below
+-- of the first client that locks out of order, this is the first place where it does so, and the first name held then
+-- that is not below
 pub record IsFirstOutOfOrder (script : ScriptState) (found : OutOfOrder) : Type 0 where
   pub is : IsOf (λ ops. IsFirstBelow ops found.since found.place) script found.client
   pub first : (client : ℕ) → IsOf LocksOutOfOrder script client → found.client ≤ client

@@ -24,7 +24,8 @@ pub record IsInOrder (node : NodeState) (client : ℕ) (name : List ℕ) : Type 
 
 -- whenever a client asked for a name in these moves, the name was next in its order
 abbrev pub TakeNamesInOrder : (n start : ℕ) → List Move → Type 0
-TakeNamesInOrder n start moves = (before after : List Move) (ask : Move) (node client : ℕ) (name : List ℕ) (mode : Mode) (nodes : ℕ → NodeState)
+TakeNamesInOrder n start moves =
+    (before after : List Move) (ask : Move) (node client : ℕ) (name : List ℕ) (mode : Mode) (nodes : ℕ → NodeState)
     → moves ≡ before ++ ask ∷ after → ask.step ≡ Ask node client name mode → EndsWith n start before nodes
     → IsInOrder (nodes node) client name
 
@@ -44,5 +45,6 @@ pub record IsHeldInOrder (n : ℕ) (nodes : ℕ → NodeState) (name : List ℕ)
   pub within : (1 ≤ node) × (node ≤ n)
   pub client : ℕ
   pub holds : HoldsName (nodes node) client name
-  pub ascends : (i holder : ℕ) (other : List ℕ) → (1 ≤ i) × (i ≤ n) → HoldsName (nodes i) holder name → WaitsForName (nodes i) holder other
+  pub ascends : (i holder : ℕ) (other : List ℕ) → (1 ≤ i) × (i ≤ n) → HoldsName (nodes i) holder name
+      → WaitsForName (nodes i) holder other
       → IsBelow name other

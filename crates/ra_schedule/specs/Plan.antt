@@ -33,8 +33,10 @@ IsNextMark node op requested mark = ⊥
 abbrev pub FollowsOps : ℕ → List Op → List Mark → Type 0
 FollowsOps node [] [] = Unit {0}
 FollowsOps node (Lock name mode ∷ ops) (first ∷ second ∷ marks) =
-    IsNextMark node (Lock name mode) false first × IsNextMark node (Lock name mode) true second × FollowsOps node ops marks
-FollowsOps node (Unlock name ∷ ops) (first ∷ marks) = IsNextMark node (Unlock name) false first × FollowsOps node ops marks
+    IsNextMark node (Lock name mode) false first × IsNextMark node (Lock name mode) true second
+    × FollowsOps node ops marks
+FollowsOps node (Unlock name ∷ ops) (first ∷ marks) =
+    IsNextMark node (Unlock name) false first × FollowsOps node ops marks
 FollowsOps node ops marks = ⊥
 
 -- if the client exists, these marks are those of its operations, and otherwise there are no marks

@@ -64,7 +64,8 @@ pub record IsRandomState (script : ScriptState) (moves : List Move) (random : Ra
 
 -- the same, except that chance has not looked yet at the clients at the node of a step and at those that entered by its
 -- marks
-pub record IsRandomStateElsewhere (step : Step) (marks : List Mark) (script : ScriptState) (moves : List Move) (random : RandomState) : Type 0 where
+pub record IsRandomStateElsewhere (step : Step) (marks : List Mark) (script : ScriptState) (moves : List Move)
+    (random : RandomState) : Type 0 where
   pub node_clients : AreNodeClients script random.node_clients.items
   pub flags : AreFlagsElsewhere step marks script moves random.enabled.flags.items
   pub counted : CountsFlags script random.enabled

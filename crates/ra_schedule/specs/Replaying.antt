@@ -17,7 +17,8 @@ use Rattle.ra_schedule.specs.Shrinking.{IsStuckRun, ComesOf, IsInVain, cut}
 
 -- some client waits
 abbrev pub SomeoneWaits : List Progress → Type 0
-SomeoneWaits clients = (place : ℕ) × (place < length clients) × ((d : Progress) → IsTrue (slice_index_or clients place d).waiting)
+SomeoneWaits clients =
+    (place : ℕ) × (place < length clients) × ((d : Progress) → IsTrue (slice_index_or clients place d).waiting)
 
 -- one choice for each move, which means its step
 pub record AreChoicesFor (script : ScriptState) (choices : List Choice) (moves : List Move) : Type 0 where
@@ -53,7 +54,8 @@ pub record IsShorter (script : ScriptState) (steps : List Step) (limit : ℕ) (l
 
 -- no step from one place up to another can be left out
 abbrev pub AreInVain : ScriptState → List Step → (from to : ℕ) → Type 0
-AreInVain script steps from to = (place : ℕ) → from ≤ place → place < to → IsInVain script (cut steps place) (length steps)
+AreInVain script steps from to =
+    (place : ℕ) → from ≤ place → place < to → IsInVain script (cut steps place) (length steps)
 
 -- this was found without the step at its place
 abbrev pub IsShorterRunOf : ScriptState → List Step → ShorterRun → Type 0

@@ -91,9 +91,11 @@ IsAtPlace moves place message = (left : List Sent) × LeavesUnderWay moves left 
 -- the choice can be made, and this is its step
 abbrev pub StandsFor : ScriptState → List Move → Choice → Step → Type 0
 StandsFor script moves (Client client) step = Enables script moves client step
-StandsFor script moves (Message place) step = (message : Sent) × IsAtPlace moves place message × (step ≡ Deliver message)
+StandsFor script moves (Message place) step =
+    (message : Sent) × IsAtPlace moves place message × (step ≡ Deliver message)
 StandsFor script moves (Lost place) step = (message : Sent) × IsAtPlace moves place message × (step ≡ Lose message)
-StandsFor script moves (Repeated place) step = (message : Sent) × IsAtPlace moves place message × (step ≡ Repeat message)
+StandsFor script moves (Repeated place) step =
+    (message : Sent) × IsAtPlace moves place message × (step ≡ Repeat message)
 
 -- the choice names a client or a message that does not exist
 abbrev pub IsBadPlace : ScriptState → List Move → Choice → Type 0
@@ -176,7 +178,8 @@ Picks script Newest moves (Message place) = LeavesMessages script moves (place +
 Picks script Newest moves (Lost place) = ⊥
 Picks script Newest moves (Repeated place) = ⊥
 Picks script (Seeded seed) moves choice = IsNamedBy (word_of seed (length moves)) script moves choice
-Picks script (Faulty seed faults) moves choice = (named : Choice) × IsNamedBy (word_of seed (words_by (steps_of moves))) script moves named
+Picks script (Faulty seed faults) moves choice =
+    (named : Choice) × IsNamedBy (word_of seed (words_by (steps_of moves))) script moves named
     × (choice ≡ with_fault faults (word_of seed (words_by (steps_of moves) + 1)) named)
 Picks script (Listed choices) moves choice = slice_get choices.items (length moves) ≡ Some choice
 
@@ -200,7 +203,8 @@ pub record Follows (script : ScriptState) (policy : Policy) (moves : List Move) 
 
 -- why a policy cannot go on after these moves, if it may make at most this many
 abbrev pub Stops : ScriptState → Policy → ℕ → List Move → DriveError → Type 0
-Stops script policy limit moves TurnLimit = (length moves ≡ limit) × ((choice : Choice) × Picks script policy moves choice)
+Stops script policy limit moves TurnLimit =
+    (length moves ≡ limit) × ((choice : Choice) × Picks script policy moves choice)
 Stops script policy limit moves BadPlace = (length moves < limit)
     × ((choice : Choice) × Picks script policy moves choice × IsBadPlace script moves choice)
 Stops script policy limit moves NotEnabled = (length moves < limit)

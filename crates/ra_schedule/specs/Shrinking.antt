@@ -26,7 +26,8 @@ CanGoOn script moves client = (1 ≤ steps_by client (steps_of moves)) × IsEnab
 
 -- this is the first client in the order of the script that can go on
 abbrev pub IsFirstToGoOn : ScriptState → List Move → ℕ → Type 0
-IsFirstToGoOn script moves client = CanGoOn script moves client × ((other : ℕ) → other < client → CanGoOn script moves other → ⊥)
+IsFirstToGoOn script moves client =
+    CanGoOn script moves client × ((other : ℕ) → other < client → CanGoOn script moves other → ⊥)
 
 -- the client is one of the script, and waits
 abbrev pub Waits : ScriptState → List Move → ℕ → Type 0
@@ -37,8 +38,8 @@ pub record IsAtStandstill (script : ScriptState) (moves : List Move) : Type 0 wh
   pub none_goes_on : (client : ℕ) → CanGoOn script moves client → ⊥
   pub none_under_way : LeavesUnderWay moves []
 
--- The run is stuck: of the clients that have begun none is enabled, and nothing is under way, but some client waits. Others
--- need not have begun.
+-- The run is stuck: of the clients that have begun none is enabled, and nothing is under way, but some client waits.
+-- Others need not have begun.
 pub record IsStuckRun (script : ScriptState) (moves : List Move) : Type 0 where
   pub quiet : IsAtStandstill script moves
   pub someone_waits : (client : ℕ) × Waits script moves client
@@ -95,8 +96,8 @@ abbrev pub IsFirstAlike : List Move → Sent → ℕ → Type 0
 IsFirstAlike moves message place = IsAlikeAt moves message place
     × ((earlier : ℕ) → earlier < place → IsAlikeAt moves message earlier → ⊥)
 
--- The choice by which a step is done again: the next operation of its client, or the same with the first message that differs
--- from its own at most in the number. No choice cancels or forgets.
+-- The choice by which a step is done again: the next operation of its client, or the same with the first message that
+-- differs from its own at most in the number. No choice cancels or forgets.
 abbrev pub IsFor : List Move → Step → Choice → Type 0
 IsFor moves (Ask node client name mode) choice = choice ≡ Client client
 IsFor moves (Leave node client name) choice = choice ≡ Client client
@@ -109,15 +110,18 @@ IsFor moves (Forget node) choice = ⊥
 -- the step was done again, if it can be
 abbrev pub Redone : ScriptState → Step → (old new : List Move) → Type 0
 Redone script step old new =
-    ((choice : Choice) × (move : Move) × IsFor old step choice × StandsFor script old choice move.step × (new ≡ old ++ move ∷ []))
+    ((choice : Choice) × (move : Move) × IsFor old step choice × StandsFor script old choice move.step
+    × (new ≡ old ++ move ∷ []))
     ⊎ (((choice : Choice) (made : Step) → IsFor old step choice → StandsFor script old choice made → ⊥) × (new ≡ old))
 
 -- after the first moves these steps were done again, one after the other, each if it can be then
 abbrev pub Replays : ScriptState → (old : List Move) → List Step → (new : List Move) → Type 0
 Replays script old [] new = new ≡ old
-Replays script old (step ∷ steps) new = (between : List Move) × Redone script step old between × Replays script between steps new
+Replays script old (step ∷ steps) new =
+    (between : List Move) × Redone script step old between × Replays script between steps new
 
--- the oldest choice of those that have begun: the first client that can go on, or, if none can, the message that was sent first
+-- the oldest choice of those that have begun: the first client that can go on, or, if none can, the message that was
+-- sent first
 abbrev pub IsOldest : ScriptState → List Move → Choice → Type 0
 IsOldest script moves (Client client) = IsFirstToGoOn script moves client
 IsOldest script moves (Message place) = ((client : ℕ) → CanGoOn script moves client → ⊥) × (place ≡ 0)
@@ -129,10 +133,11 @@ IsOldest script moves (Repeated place) = ⊥
 abbrev pub GoesOnOldest : ScriptState → List Move → List Move → Type 0
 GoesOnOldest script moves after = (rest : List Move) × (after ≡ moves ++ rest)
     × ((before later : List Move) (move : Move) → rest ≡ before ++ move ∷ later
-    → (choice : Choice) × IsOldest script (moves ++ before) choice × StandsFor script (moves ++ before) choice move.step)
+    → (choice : Choice) × IsOldest script (moves ++ before) choice
+    × StandsFor script (moves ++ before) choice move.step)
 
--- What comes of steps that are done again: first what each of them did, if it can be done then; then the oldest choice of
--- those that have begun, until there is none, or there are this many moves.
+-- The moves of steps that are done again: first what each of them did, if it can be done then; then the oldest choice
+-- of those that have begun, until there is none, or there are this many moves.
 pub record ComesOf (script : ScriptState) (steps : List Step) (limit : ℕ) (moves : List Move) : Type 0 where
   pub redone : List Move
   pub replays : Replays script [] steps redone
@@ -141,19 +146,19 @@ pub record ComesOf (script : ScriptState) (steps : List Step) (limit : ℕ) (mov
 
 -- ---- The least list
 
--- what comes of these steps has at least this many moves, or is not stuck
+-- the run of these steps has at least this many moves, or is not stuck
 pub record IsInVain (script : ScriptState) (steps : List Step) (limit : ℕ) : Type 0 where
   pub moves : List Move
   pub run : IsRun script.nodes 0 moves
   pub comes : ComesOf script steps limit moves
   pub vain : (limit ≤ length moves) ⊎ (IsStuckRun script moves → ⊥)
 
--- whichever step is left out, nothing shorter comes of the others that is stuck
+-- whichever step is left out, the run of the others is not stuck or not shorter
 abbrev pub IsLeast : ScriptState → List Step → Type 0
 IsLeast script steps = (place : ℕ) → place < length steps → IsInVain script (cut steps place) (length steps)
 
--- These choices make a run that is stuck, is no longer than the given one, and can't be made shorter by leaving out a step. It
--- repeats a message only if the given one does.
+-- These choices make a run that is stuck, is no longer than the given one, and can't be made shorter by leaving out a
+-- step. It repeats a message only if the given one does.
 pub record IsLeastOf (script : ScriptState) (given : List Move) (choices : Listing Choice) : Type 0 where
   pub moves : List Move
   pub by : AreChoicesBy script (Listed choices) choices.items moves
@@ -163,10 +168,11 @@ pub record IsLeastOf (script : ScriptState) (given : List Move) (choices : Listi
   pub unrepeated : repeated_by given ≡ [] → repeated_by moves ≡ []
   pub least : IsLeast script (steps_of moves)
 
--- the policy was followed to its end within the limit. If this run is stuck, these are the choices of the least run that was
--- found, and otherwise there are none.
+-- the policy was followed to its end within the limit. If this run is stuck, these are the choices of the least run
+-- that was found, and otherwise there are none.
 pub record IsShrunk (script : ScriptState) (policy : Policy) (limit : ℕ) (shrunk : Shrunk) : Type 0 where
   pub moves : List Move
   pub report : Report
   pub run : IsWholeRun script policy limit moves report shrunk.finished
-  pub choices : MatchOption shrunk.choices (IsStuckRun script moves → ⊥) (λ choices. IsStuckRun script moves × IsLeastOf script moves choices)
+  pub choices : MatchOption shrunk.choices (IsStuckRun script moves → ⊥)
+      (λ choices. IsStuckRun script moves × IsLeastOf script moves choices)

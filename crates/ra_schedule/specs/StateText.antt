@@ -61,13 +61,15 @@ pub record WaitsSinceStep (client : ℕ) (moves : List Move) (name : List ℕ) (
   pub asks : (node : ℕ) × (ask.step ≡ Ask node client name mode)
   pub not_entered : All (λ mark. Enters client mark → ⊥) (marks_of (ask ∷ after))
 
--- what a client is at after these moves: it has nothing left to do, or waits since a step, or has a next operation, which
--- is enabled or not
+-- what a client is at after these moves: it has nothing left to do, or waits since a step, or has a next operation,
+-- which is enabled or not
 abbrev pub IsClientState : ScriptState → List Move → ℕ → ClientState → Type 0
-IsClientState script moves client Done = (IsWaiting client moves → ⊥) × (op_at script client (steps_by client (steps_of moves)) ≡ None)
+IsClientState script moves client Done =
+    (IsWaiting client moves → ⊥) × (op_at script client (steps_by client (steps_of moves)) ≡ None)
 IsClientState script moves client (Waits name mode number) = WaitsSinceStep client moves name mode number
 IsClientState script moves client (Next op enabled) = (IsWaiting client moves → ⊥)
-    × (op_at script client (steps_by client (steps_of moves)) ≡ Some op) × (IsTrue enabled ↔ IsEnabled script moves client)
+    × (op_at script client (steps_by client (steps_of moves)) ≡ Some op)
+    × (IsTrue enabled ↔ IsEnabled script moves client)
 
 -- an operation in words
 abbrev pub op_fields : Op → List ℕ
@@ -82,12 +84,14 @@ enabled_word false = codes "blocked"
 -- what a client is at, in words
 abbrev pub state_fields : ClientState → List ℕ
 state_fields Done = field (codes "done")
-state_fields (Waits name mode number) = field (codes "waits") ++ field name ++ field (mode_word mode) ++ field (decimal number)
+state_fields (Waits name mode number) =
+    field (codes "waits") ++ field name ++ field (mode_word mode) ++ field (decimal number)
 state_fields (Next op enabled) = field (codes "next") ++ op_fields op ++ field (enabled_word enabled)
 
 -- the line of a client of a node
 abbrev pub client_line : ℕ → ℕ → ClientState → List ℕ
-client_line client node state = codes "client" ++ field (decimal client) ++ field (decimal node) ++ state_fields state ++ codes "\n"
+client_line client node state =
+    codes "client" ++ field (decimal client) ++ field (decimal node) ++ state_fields state ++ codes "\n"
 
 -- this is the line of a client after these moves
 pub record IsClientLine (script : ScriptState) (moves : List Move) (client : ℕ) (line : List ℕ) : Type 0 where
@@ -105,8 +109,8 @@ AreClientLines script moves (suc count) text = (before line : List ℕ)
 
 -- ---- A state
 
--- The text says which state the cluster and the clients of a script are in after these moves. It tells of each name of the
--- script, and the lock table has requests on no others, so all of them are in the text.
+-- The text says which state the cluster and the clients of a script are in after these moves. It tells of each name of
+-- the script, and the lock table has requests on no others, so all of them are in the text.
 pub record ShowsState (script : ScriptState) (moves : List Move) (text : List ℕ) : Type 0 where
   pub names : List (List ℕ)
   pub are_names : AreNamesOf script names

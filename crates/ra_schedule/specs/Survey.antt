@@ -26,7 +26,8 @@ chance (Some faults) seed = Faulty seed faults
 
 -- the policy was followed to its end within the limit; these are the turns made and messages sent, and whether the run
 -- is finished
-pub record HasEnded (script : ScriptState) (policy : Policy) (limit : ℕ) (figures : RunCost) (finished : Bool) : Type 0 where
+pub record HasEnded (script : ScriptState) (policy : Policy) (limit : ℕ) (figures : RunCost)
+    (finished : Bool) : Type 0 where
   pub moves : List Move
   pub report : Report
   pub run : IsWholeRun script policy limit moves report finished
@@ -37,11 +38,13 @@ pub record HasEnded (script : ScriptState) (policy : Policy) (limit : ℕ) (figu
 abbrev pub IsOutcome : ScriptState → Policy → ℕ → SeedOutcome → Type 0
 IsOutcome script policy limit (Finished figures) = HasEnded script policy limit figures true
 IsOutcome script policy limit (Stuck figures) = HasEnded script policy limit figures false
-IsOutcome script policy limit Limit = (moves : List Move) × Follows script policy moves × Stops script policy limit moves TurnLimit
+IsOutcome script policy limit Limit =
+    (moves : List Move) × Follows script policy moves × Stops script policy limit moves TurnLimit
 
 -- the outcome of a script under each seed, from this one on
 abbrev pub AreOutcomes : ScriptState → Option FaultRates → (limit first : ℕ) → List SeedOutcome → Type 0
-AreOutcomes script faults limit first outcomes = (place : ℕ) (outcome : SeedOutcome) → slice_get outcomes place ≡ Some outcome
+AreOutcomes script faults limit first outcomes =
+    (place : ℕ) (outcome : SeedOutcome) → slice_get outcomes place ≡ Some outcome
     → IsOutcome script (chance faults (first + place)) limit outcome
 
 -- ---- Counted
@@ -81,7 +84,8 @@ messages_of outcomes = map (λ figures. figures.messages) (flat_map figures_of o
 -- how many of the seeds from this one on came to such an end, and the first of them, if any did
 abbrev pub tally_of : (SeedOutcome → Bool) → ℕ → List SeedOutcome → Option Tally
 tally_of test first outcomes =
-    option_map (λ seed. record { seeds = length (filter test outcomes); first = seed }) (position_from test first outcomes)
+    option_map (λ seed. record { seeds = length (filter test outcomes); first = seed })
+    (position_from test first outcomes)
 
 -- the tally with one more seed, after those that were counted
 abbrev pub tally_with : Option Tally → ℕ → Tally
@@ -115,14 +119,17 @@ NoneIsRepeated faults = IfSome faults (λ rates. rates.repeat ≡ 0)
 -- Of a script whose clients take names in ascending order and give them all back, no seed is stuck unless messages are
 -- lost. Of any script, no seed comes to a limit of at least `most_turns` unless messages are repeated. So under neither
 -- of them each seed from the first to the last is counted as finished.
-pub record SeedsFinish (script : ScriptState) (faults : Option FaultRates) (limit first last : ℕ) (survey : Survey) : Type 0 where
+pub record SeedsFinish (script : ScriptState) (faults : Option FaultRates) (limit first last : ℕ)
+    (survey : Survey) : Type 0 where
   pub none_stuck : (IsOutOfOrder script → ⊥) → (IsUnreleased script → ⊥) → NoneIsLost faults → survey.stuck ≡ None
   pub none_at_limit : NoneIsRepeated faults → most_turns script ≤ limit → survey.limit ≡ None
   pub all_finished : (IsOutOfOrder script → ⊥) → (IsUnreleased script → ⊥) → NoneIsLost faults → NoneIsRepeated faults
-      → most_turns script ≤ limit → first ≤ last → survey.finished ≡ Some (record { seeds = last + 1 - first; first = first })
+      → most_turns script ≤ limit → first ≤ last
+      → survey.finished ≡ Some (record { seeds = last + 1 - first; first = first })
 
 -- the survey of a script under chance, with faults or without, by each seed from the first to the last, both included
-pub record IsSurvey (script : ScriptState) (faults : Option FaultRates) (limit first last : ℕ) (survey : Survey) : Type 0 where
+pub record IsSurvey (script : ScriptState) (faults : Option FaultRates) (limit first last : ℕ)
+    (survey : Survey) : Type 0 where
   pub outcomes : List SeedOutcome
   pub each : AreOutcomes script faults limit first outcomes
   pub all : length outcomes ≡ last + 1 - first

@@ -22,14 +22,16 @@ with_seeds seed [] = []
 with_seeds seed (outcome ∷ outcomes) = record { seed = seed; outcome = outcome } ∷ with_seeds (seed + 1) outcomes
 
 -- the observer learned the outcomes of this many seeds, in order from the first one
-pub record TellsSeeds (script : ScriptState) (faults : Option FaultRates) (limit first count : ℕ) (old new : Option (List Told)) : Type 0 where
+pub record TellsSeeds (script : ScriptState) (faults : Option FaultRates) (limit first count : ℕ)
+    (old new : Option (List Told)) : Type 0 where
   pub outcomes : List SeedOutcome
   pub each : AreOutcomes script faults limit first outcomes
   pub all : length outcomes ≡ count
   pub told : Tells old new (with_seeds first outcomes)
 
 -- the same, and the last seed was not reached
-pub record TellsSomeSeeds (script : ScriptState) (faults : Option FaultRates) (limit first last : ℕ) (old new : Option (List Told)) : Type 0 where
+pub record TellsSomeSeeds (script : ScriptState) (faults : Option FaultRates) (limit first last : ℕ)
+    (old new : Option (List Told)) : Type 0 where
   pub count : ℕ
   pub before_last : count < last + 1 - first
   pub tells : TellsSeeds script faults limit first count old new

@@ -39,7 +39,7 @@ pub struct Driver {
     records: bool,
     /// The steps so far, if they are recorded.
     pub steps: Steps,
-    /// The choices that stand for these steps.
+    /// The choices that make these steps.
     pub choices: Choices,
 }
 

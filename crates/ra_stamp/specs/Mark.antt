@@ -1,4 +1,4 @@
--- The word of a mark, and the entry of which it tells.
+-- The word of a mark, and its entry.
 use Rattle.std.specs.Prelude.{ℕ, List, codes}
 use Rattle.ra_stamp.specs.declared.entry.Entry.{Entry}
 use Rattle.ra_stamp.specs.declared.entry.Mark.{Mark}

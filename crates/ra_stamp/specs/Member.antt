@@ -16,4 +16,5 @@ pub record Membership : Type 0 where
 
 -- it is stored as its fields
 abbrev pub member_code : Coded Membership
-member_code = code_by (ℕ × ℕ) (coded× coded_ℕ coded_ℕ) (λ m. (m.node, m.nodes)) (λ p. record { node = p.0; nodes = p.1 }) (λ _. refl)
+member_code = code_by (ℕ × ℕ) (coded× coded_ℕ coded_ℕ) (λ m. (m.node, m.nodes))
+    (λ p. record { node = p.0; nodes = p.1 }) (λ _. refl)

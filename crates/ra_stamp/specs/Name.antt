@@ -5,7 +5,8 @@ use Rattle.std.specs.List.{AllPass}
 -- whether a byte is an ASCII letter or digit, '_', '-' or '.'
 abbrev pub is_name_byte : ℕ → Bool
 is_name_byte b =
-    (nat_le 65 b && nat_le b 90) || (nat_le 97 b && nat_le b 122) || (nat_le 48 b && nat_le b 57) || b == 95 || b == 45 || b == 46
+    (nat_le 65 b && nat_le b 90) || (nat_le 97 b && nat_le b 122) || (nat_le 48 b && nat_le b 57) || b == 95 || b == 45
+    || b == 46
 
 -- a name is 1 to 32 of these bytes: ASCII letters, digits, '_', '-' and '.'
 pub record IsName (bytes : List ℕ) : Type 0 where

@@ -45,7 +45,7 @@ impl Mark {
         }
     }
 
-    /// Returns the entry of which it tells. It does not allocate.
+    /// Returns the mark's entry. It does not allocate.
     pub fn entry(&self) -> &Entry
         ensures { result.now ≡ entry_of_mark self.now }
     {

@@ -57,7 +57,8 @@ pub fn choose(
     ensures some { IfSome result (Picks script.now policy.now world.now.moves) }
     ensures none { IsNone result → Ends script.now policy.now world.now.moves }
     ensures drawn { IfSome result (λ choice.
-        Some generator.new ≡ generator_at policy.now (words_drawn policy.now world.now.moves + words_for policy.now choice)) }
+        Some generator.new
+        ≡ generator_at policy.now (words_drawn policy.now world.now.moves + words_for policy.now choice)) }
 {
     let named = draw(generator, script, world, enabled)?;
     let Policy::Faulty { faults, .. } = policy else {

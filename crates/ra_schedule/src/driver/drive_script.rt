@@ -53,8 +53,8 @@ pub struct Driven {
     pub stuck: bool,
 }
 
-/// Drives a cluster through a script, from numbers that begin at 0. At each turn the policy makes a choice, and what it
-/// stands for is done, until no choice is left. A turn costs time linear in the number of clients, on average, and that
+/// Drives a cluster through a script, from numbers that begin at 0. At each turn the policy makes a choice, whose
+/// step is made, until no choice is left. A turn costs time linear in the number of clients, on average, and that
 /// of `World::step_near`. Whether a client may ask takes time linear in the queue of the name that it asks for, if
 /// there was no memory to know the clients of a long one. The steps and choices take memory linear in the number of
 /// turns.

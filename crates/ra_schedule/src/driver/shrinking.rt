@@ -23,7 +23,7 @@ pub struct Shrunk {
     pub finished: bool,
 }
 
-/// The steps of a run, and the choices that stand for them.
+/// The steps of a run, and the choices that make them.
 #[derive(Drop)]
 struct Listed {
     steps: Steps,

@@ -182,7 +182,7 @@ fn growth_of_a_world(rt: HostRuntime) {
     grow_world(&rt, Trial::Steps);
 }
 
-/// 32 letters, of which 1,024 names of two letters are made.
+/// 32 letters, which make 1,024 names of two letters.
 const LETTERS: &[u8] = b"abcdefghijklmnopqrstuvwxyzABCDEF";
 
 /// Has client 1 of node 1 ask for the name of two letters.

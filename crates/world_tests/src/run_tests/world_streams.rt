@@ -39,7 +39,7 @@ fn a_reader_that_failed_is_not_tried_again(rt: HostRuntime) {
     assert_not_read_again(&rt, io::ErrorKind::BrokenPipe);
 }
 
-/// Asserts that this comes of a reader up to a limit.
+/// Asserts that a reader gives this, up to a limit.
 fn assert_read<R: Read>(
     rt: &(impl Abort + AllocGlobal),
     at: At<'_>,
