@@ -10,7 +10,7 @@ use std::marker::Model;
 /// A set of nodes in one word. Contracts see it as the set of their numbers.
 #[derive(Drop)]
 pub struct NodeSet {
-    /// A node is in if its bit is set: bit i - 1 is that of node i.
+    /// Bit i - 1 is set if node i is in.
     bits: u64,
 }
 
@@ -27,7 +27,7 @@ impl Model for NodeSet {
     ghost view = { λ s. set_of s.bits };
 }
 
-/// Returns the bits with that of a node cleared.
+/// Returns the bits with a node's bit cleared.
 #[inline(always)]
 fn without_bit(bits: u64, node: NodeId) -> u64
     ensures { set_of result ≡ set.remove (set_of bits) node }

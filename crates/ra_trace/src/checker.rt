@@ -1,4 +1,3 @@
-// Each line that is checked comes here, so `let .. else` and `match`, which are cheaper to prove, replace `?`.
 pub mod check_text;
 pub mod verdict;
 

@@ -2,6 +2,8 @@
 //! checker also takes logs of marks alone, so that any lock service is checked against the lock table.
 #![tactic(auto)]
 
+// Each line that is checked passes through these modules, so `let .. else` and `match`, which are cheaper to prove,
+// replace `?`.
 mod checker;
 mod error;
 mod laws;

@@ -1,5 +1,4 @@
 //! Mark logs: whether what any lock service wrote down is a run of the lock table.
-// Each line that is checked comes here, so `let .. else` and `match`, which are cheaper to prove, replace `?`.
 pub mod marks_verdict;
 
 ghost use Rattle.std.specs.Prelude.{◌≡◌, ◌↔◌, ◌<◌, ◌≤◌, ◌+◌, ◌∷◌, [], ℕ, List, Option, IfOk, IfErr, IfSome, IsErrOf};

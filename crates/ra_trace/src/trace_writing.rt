@@ -122,7 +122,7 @@ fn push_move(text: &mut Draft, version: Version, step: &Step, sends: &Messages, 
     push_marks(text, marks);
 }
 
-/// Makes a step of a run, that of this place, counted from 0, and adds its lines.
+/// Makes the step of a run at this place, counted from 0, and adds its lines.
 ///
 /// # Errors
 ///

@@ -1,4 +1,4 @@
-//! Lines of text: those of reports and of states.
+//! The lines of reports and of states.
 pub mod lines;
 pub mod report;
 pub mod state_lines;

@@ -290,7 +290,7 @@ impl<const KEEPS_MARKS: u8> WorldOf<KEEPS_MARKS> {
     ///
     /// # Errors
     ///
-    /// `Memory`: there is none for the text.
+    /// `Memory`: memory ran out.
     pub fn state_text(&self, alloc: Global, names: &[Name], clients: &str) -> Result<String, Memory>
         ensures ok { IfOk result (λ text. IsStateText self.now.count self.now.start self.now.moves names.now clients.now
             (string_bytes text)) }

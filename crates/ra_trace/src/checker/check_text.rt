@@ -1,4 +1,3 @@
-// Each line that is checked comes here, so `let .. else` and `match`, which are cheaper to prove, replace `?`.
 ghost use Rattle.std.specs.Prelude.{◌≡◌, ◌≤◌, ◌-◌, ℕ, List, Option, IfOk};
 ghost use Rattle.ra_trace.specs.Due.{TellsDue};
 ghost use Rattle.ra_trace.specs.declared.checker.Judgement.{Judgement};

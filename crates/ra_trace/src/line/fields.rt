@@ -1,5 +1,4 @@
 //! The fields of a line.
-// Each line that is checked comes here, so `let .. else` and `match`, which are cheaper to prove, replace `?`.
 ghost use Rattle.std.specs.Prelude.{◌≡◌, ◌≤◌, ◌^◌, true, Some, None, IfSome, IfNone, MatchOption};
 ghost use Rattle.std.specs.Char.{is_ascii_digit};
 ghost use Rattle.std.specs.List.{list_all};

@@ -1,5 +1,4 @@
 //! The forms of lines.
-// Each line that is checked comes here, so `let .. else` and `match`, which are cheaper to prove, replace `?`.
 ghost use Rattle.std.specs.Prelude.{◌≡◌, ◌++◌, ℕ, List, Some, None, MatchOption, drop};
 ghost use Rattle.ra_trace.specs.Forms as spec;
 
@@ -504,7 +503,7 @@ pub fn read_line_of(text: &[u8], line: &mut Option<Line>)
     read_line_without_mark(text, line);
 }
 
-/// Reads the line that a text is if it is not that of a mark.
+/// Reads a line that is not a mark's.
 #[tactic(auto, using(crate::proofs::Deliveries::delivered))]
 #[inline(always)]
 fn read_line_without_mark(text: &[u8], line: &mut Option<Line>)

@@ -1,5 +1,4 @@
 //! The next line of a trace, whose bytes are read one by one, or those that a buffer did not show.
-// Each line that is checked comes here, so `let .. else` and `match`, which are cheaper to prove, replace `?`.
 ghost use Rattle.std.specs.Prelude.{◌≢◌, ℕ, ◌≤◌, List, Option, All, length};
 ghost use Rattle.std.specs.Io.KnownBytes.{Consumes};
 ghost use Rattle.ra_trace.specs.NextLine.{ReadsLine, ReadsSome};

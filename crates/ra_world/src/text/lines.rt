@@ -12,7 +12,7 @@ use std::alloc::Global;
 ///
 /// # Errors
 ///
-/// `Memory`: there is none for the text.
+/// `Memory`: memory ran out.
 pub fn report_text(alloc: Global, report: &Report) -> Result<String, Memory>
     ensures { IfOk result (λ text. string_bytes text ≡ spec.report_text report.now) }
 {

@@ -148,7 +148,7 @@ fn push_table(text: &mut Draft, nodes: &[Node], names: &[Name])
 ///
 /// # Errors
 ///
-/// `Memory`: there is none for the text.
+/// `Memory`: memory ran out.
 pub fn state_text(
     alloc: Global,
     steps: u64,
