@@ -1,0 +1,2 @@
+mod LinkedBooks
+mod Acknowledged
