@@ -74,7 +74,8 @@ pub record IsPosted (clock : ℕ) (sends : List Message) (marks : List Mark) (te
   pub text_is : text ≡ sent ++ flat_map mark_line marks ++ codes "ok\n"
 
 -- the line is an event of a book of this version that the node takes, and it sends and marks this
-pub record Reacts (version : BookVersion) (old : Timed) (line : List ℕ) (sends : List Message) (marks : List Mark) (new : Timed) : Type 0 where
+pub record Reacts (version : BookVersion) (old : Timed) (line : List ℕ) (sends : List Message) (marks : List Mark)
+    (new : Timed) : Type 0 where
   pub kind : BookKind
   pub is_event : IsEventIn version line kind
   pub takes : Takes old kind sends marks new
@@ -82,7 +83,8 @@ pub record Reacts (version : BookVersion) (old : Timed) (line : List ℕ) (sends
 -- the line is no event of a book of this version, or one that is refused; the node is as it was
 pub record Stays (version : BookVersion) (old : Timed) (line : List ℕ) (new : Timed) (why : Refusal) : Type 0 where
   pub cause : IsUnread line why ⊎ (((why ≡ refusal.Line) × IsTooNew version line)
-      ⊎ ((kind : BookKind) × (cause : BookError) × (why ≡ refusal.Event cause) × IsEventIn version line kind × Refuses old kind cause))
+      ⊎ ((kind : BookKind) × (cause : BookError) × (why ≡ refusal.Event cause) × IsEventIn version line kind
+      × Refuses old kind cause))
   pub new_is : new ≡ old
 
 -- the node takes the line, and this is the answer
@@ -122,12 +124,14 @@ lines_of all = map line_of all
 abbrev pub text_of : List Answered → List ℕ
 text_of all = flat_map answer_of all
 
--- The node is handed these lines of a book of this version, one after the other, answers each of them so, and is then this one. A line that it
--- refuses leaves it as it was.
+-- The node is handed these lines of a book of this version, one after the other, answers each of them so, and is then
+-- this one. A line that it refuses leaves it as it was.
 abbrev pub AnswersEach : BookVersion → Timed → List Answered → Timed → Type 0
 AnswersEach version old [] new = new ≡ old
-AnswersEach version old (Accepted line answer ∷ all) new = (next : Timed) × Accepts version old line answer next × AnswersEach version next all new
-AnswersEach version old (Refused line answer ∷ all) new = Denies version old line answer old × AnswersEach version old all new
+AnswersEach version old (Accepted line answer ∷ all) new =
+    (next : Timed) × Accepts version old line answer next × AnswersEach version next all new
+AnswersEach version old (Refused line answer ∷ all) new =
+    Denies version old line answer old × AnswersEach version old all new
 
 -- the book that is kept: the lines that the node accepted, each with its very answer, in order; none that it refused
 abbrev pub kept_of : List Answered → List Answered

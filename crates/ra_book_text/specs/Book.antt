@@ -20,7 +20,7 @@ pub record HasRead (old new : Option (List ℕ)) (lines : List (List ℕ)) (part
   pub each : All HasNoFeed lines
   pub rest : HasNoFeed part
 
--- the answers to a book of which these lines are known: `ok` to its first line, and then those of its node in this version
+-- the answers to the book that has these lines so far: `ok` to its first line, and then what its node answers
 abbrev pub AnswersBook : List (List ℕ) → List ℕ → Type 0
 AnswersBook [] text = text ≡ []
 AnswersBook (line ∷ lines) text =
@@ -28,7 +28,7 @@ AnswersBook (line ∷ lines) text =
     × IsFirst line version node nodes start
     × (text ≡ codes "ok\n" ++ rest) × AnswersAll version (opening node nodes start) lines rest new
 
--- what was read is no book: its first line is not that of a book, or it ends before its first line feed
+-- what was read is no book: its first line begins none, or it ends before its first line feed
 abbrev pub IsNoBook : Option (List ℕ) → Option (List ℕ) → Type 0
 IsNoBook old new =
     ((line : List ℕ) × HasRead old new (line ∷ []) [] × IsNoFirst line)
@@ -36,10 +36,11 @@ IsNoBook old new =
 
 -- what was read is a book so far, and these are the answers to its lines
 abbrev pub IsAnswered : Option (List ℕ) → Option (List ℕ) → List ℕ → Type 0
-IsAnswered old new text = (lines : List (List ℕ)) × (part : List ℕ) × HasRead old new lines part × AnswersBook lines text
+IsAnswered old new text =
+    (lines : List (List ℕ)) × (part : List ℕ) × HasRead old new lines part × AnswersBook lines text
 
--- What was read, and what is to be written of it when a fault ends it, or the end of the input does. That of a
--- writer may come at any line.
+-- What was read, and what is to be written of it when a fault ends it, or the end of the input does. The writer's fault
+-- may come at any line.
 abbrev pub IsOwed : Option (List ℕ) → Option (List ℕ) → List ℕ → Result (Unit {0}) BookFault → Type 0
 IsOwed old new text (Ok done) = IsAnswered old new text × (text ≢ []) × IsAtEnd new
 IsOwed old new text (Err Line) = IsNoBook old new × (text ≡ refused_line refusal.Line)
@@ -51,4 +52,5 @@ abbrev pub IsWritten : Option (List ℕ) → Option (List ℕ) → List ℕ → 
 IsWritten old new text (Ok done) = Appends old new text
 IsWritten old new text (Err Line) = Appends old new text
 IsWritten old new text (Err Read) = Appends old new text
-IsWritten old new text (Err Write) = (prefix : List ℕ) × (rest : List ℕ) × (text ≡ prefix ++ rest) × Appends old new prefix
+IsWritten old new text (Err Write) =
+    (prefix : List ℕ) × (rest : List ℕ) × (text ≡ prefix ++ rest) × Appends old new prefix

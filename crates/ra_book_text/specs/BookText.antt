@@ -23,9 +23,11 @@ abbrev pub version_text : BookVersion → List ℕ
 version_text One = codes "book 1"
 version_text Two = codes "book 2"
 
--- the first line: the version, the number of the node, how many nodes there are, and the number with which each resource begins
+-- the first line: the version, the number of the node, how many nodes there are, and the number with which each
+-- resource begins
 abbrev pub first_text : BookVersion → ℕ → ℕ → ℕ → List ℕ
-first_text version node nodes start = version_text version ++ field (decimal node) ++ field (decimal nodes) ++ field (decimal start)
+first_text version node nodes start =
+    version_text version ++ field (decimal node) ++ field (decimal nodes) ++ field (decimal start)
 
 -- the line is the first one of a book of this node, in this version
 pub record IsFirst (line : List ℕ) (version : BookVersion) (node nodes start : ℕ) : Type 0 where
@@ -86,7 +88,7 @@ IsEvent line (kinds.Cancel client name) = HasForm line (Cancel client name)
 IsEvent line kinds.Forget = HasForm line Forget
 IsEvent line (kinds.Receive frame) = (digits : List ℕ) × HasForm line (Receive digits) × IsFrameOf digits frame
 
--- Why a line is no event: it has none of the forms, or its digits stand for no frame. The other refusals are those of events.
+-- why a line is no event: it has none of the forms, or its digits are no frame; the other refusals are of events
 abbrev pub IsUnread : List ℕ → Refusal → Type 0
 IsUnread line Line = (form : Form) → HasForm line form → ⊥
 IsUnread line Hex = (digits : List ℕ) × HasForm line (Receive digits) × IsNoFrame digits Hex
@@ -120,10 +122,11 @@ IsTooNew version line = (kind : BookKind) × IsEvent line kind × (AllowsKind ve
 abbrev pub IsNoFirst : List ℕ → Type 0
 IsNoFirst line = (version : BookVersion) (node nodes start : ℕ) → IsFirst line version node nodes start → ⊥
 
--- After a first line of this version, each of these lines is the first one of a book, or an event that a book of the version of the
--- first line before it has. The line after them is read in the other version.
+-- After a first line of this version, each of these lines begins a book, or is an event that a book of its version may
+-- have: of the version that the first line before it names. The line after them is read in the other version.
 abbrev pub AreReadIn : BookVersion → List (List ℕ) → BookVersion → Type 0
 AreReadIn version [] next = next ≡ version
 AreReadIn version (line ∷ lines) next =
-    ((new : BookVersion) × (node : ℕ) × (nodes : ℕ) × (start : ℕ) × IsFirst line new node nodes start × AreReadIn new lines next)
+    ((new : BookVersion) × (node : ℕ) × (nodes : ℕ) × (start : ℕ) × IsFirst line new node nodes start
+    × AreReadIn new lines next)
     ⊎ ((kind : BookKind) × IsEventIn version line kind × AreReadIn version lines next)

@@ -141,6 +141,7 @@ IsUnfit repeats ordered came (fault.Invalid number cause.Books) = ⊥
 IsUnfit repeats ordered came (fault.Invalid number cause.Refused) = ⊥
 IsUnfit repeats ordered came fault.Memory = HasUnsent ordered → ⊥
 
--- books are refused as `NotSent` exactly if a frame came that was not sent, and as `Twice` only if no message may come again
+-- books are refused as `NotSent` exactly if a frame came that was not sent, and as `Twice` only if no message may come
+-- again
 abbrev pub IsRefusedBy : (repeats : Bool) → List BookState → SettleError → Type 0
 IsRefusedBy repeats books why = ((why ≡ NotSent) ↔ HasUnsent books) × (why ≡ Twice → repeats ≡ false)

@@ -20,7 +20,8 @@ IsKeptLine line bytes true = 256 < length line
 -- these bytes are kept after those that are kept of a line
 abbrev pub Keeps : KeptLine → KeptLine → List ℕ → Type 0
 Keeps old new part =
-    (text : List ℕ) → IsKeptLine text old.bytes.items old.is_long → IsKeptLine (text ++ part) new.bytes.items new.is_long
+    (text : List ℕ) → IsKeptLine text old.bytes.items old.is_long
+    → IsKeptLine (text ++ part) new.bytes.items new.is_long
 
 -- the bytes are a part of a line, with its line feed if it is over
 abbrev pub IsPiece : List ℕ → Bool → List ℕ → Type 0
@@ -37,22 +38,24 @@ pub record KeepsShown (shown : List ℕ) (old new : KeptLine) (taken : TakenByte
 -- so much was taken of what was shown
 abbrev pub TakesShown : Option (List ℕ) → Option (List ℕ) → KeptLine → KeptLine → Result TakenBytes ReadFault → Type 0
 TakesShown old new line line' (Ok taken) =
-    (bytes : List ℕ) × (part : List ℕ) × Consumes old new bytes × (length bytes ≡ taken.count) × IsPiece bytes taken.is_over part
-    × Keeps line line' part
+    (bytes : List ℕ) × (part : List ℕ) × Consumes old new bytes × (length bytes ≡ taken.count)
+    × IsPiece bytes taken.is_over part × Keeps line line' part
 TakesShown old new line line' (Err fault) = (fault ≡ Read) × Consumes old new [] × (line' ≡ line)
 
 -- these bytes of a line were taken
 abbrev pub TakesPiece : Option (List ℕ) → Option (List ℕ) → KeptLine → KeptLine → Result Piece ReadFault → Type 0
 TakesPiece old new line line' (Ok Part) =
     (part : List ℕ) × Consumes old new part × HasNoFeed part × (1 ≤ length part) × Keeps line line' part
-TakesPiece old new line line' (Ok Over) = (part : List ℕ) × Consumes old new (part ++ 10 ∷ []) × HasNoFeed part × Keeps line line' part
+TakesPiece old new line line' (Ok Over) =
+    (part : List ℕ) × Consumes old new (part ++ 10 ∷ []) × HasNoFeed part × Keeps line line' part
 TakesPiece old new line line' (Ok End) = Consumes old new [] × IsAtEnd new × Keeps line line' []
 TakesPiece old new line line' (Err fault) = (fault ≡ Read) × Consumes old new []
 
 -- the next line was taken with its line feed, and this is kept of it; or bytes without one
 abbrev pub TakesLine : Option (List ℕ) → Option (List ℕ) → KeptLine → Type 0
 TakesLine old new line =
-    (text : List ℕ) × Consumes old new (text ++ 10 ∷ []) × HasNoFeed text × IsKeptLine text line.bytes.items line.is_long
+    (text : List ℕ) × Consumes old new (text ++ 10 ∷ []) × HasNoFeed text
+    × IsKeptLine text line.bytes.items line.is_long
 
 abbrev pub TakesOpen : Option (List ℕ) → Option (List ℕ) → Type 0
 TakesOpen old new = (text : List ℕ) × Consumes old new text × HasNoFeed text

@@ -43,7 +43,8 @@ pub record Driven : Type 0 where
 
 -- the first line made the node, and it answered the others so
 abbrev pub IsDriven : Driven → Type 0
-IsDriven driven = (version : BookVersion) × (node : ℕ) × (nodes : ℕ) × (start : ℕ) × IsFirst driven.first version node nodes start
+IsDriven driven = (version : BookVersion) × (node : ℕ) × (nodes : ℕ) × (start : ℕ)
+    × IsFirst driven.first version node nodes start
     × AnswersEach version (opening node nodes start) driven.answered driven.end
 
 -- the book that is kept of it: the first line, and the lines that were accepted
@@ -54,8 +55,8 @@ book_lines driven = driven.first ∷ lines_of (kept_of driven.answered)
 abbrev pub all_book_lines : List Driven → List (List ℕ)
 all_book_lines driven = flat_map book_lines driven
 
--- The line is the event, and its answer is what came of it: a line `send` for each frame, with the clock of the event, the
--- lines of the marks, and `ok`.
+-- The line is the event, and its answer says what the event did: a line `send` for each frame, with the clock of the
+-- event, the lines of the marks, and `ok`.
 abbrev pub IsAnswerTo : Posting → Answered → Type 0
 IsAnswerTo posting (Accepted line answer) =
     IsEvent line posting.event.kind × IsPosted posting.event.clock posting.sends posting.marks answer
@@ -67,9 +68,10 @@ pub data Told : Type 0 where
   Marks : (mark : Mark) → Told
   IsDone : Told
 
--- the line of a frame begins with `send`, that of a mark with its word, and the last one is `ok`
+-- the line of a frame begins with `send`, the line of a mark with its word, and the last one is `ok`
 abbrev pub Tells : List ℕ → Told → Type 0
-Tells line (Sends frame) = (bytes : List ℕ) × IsWrittenText bytes frame × (line ++ codes "\n" ≡ send_line (to_of frame.message) bytes)
+Tells line (Sends frame) =
+    (bytes : List ℕ) × IsWrittenText bytes frame × (line ++ codes "\n" ≡ send_line (to_of frame.message) bytes)
 Tells line (Marks mark) = line ++ codes "\n" ≡ mark_line mark
 Tells line IsDone = line ≡ codes "ok"
 
@@ -86,9 +88,9 @@ marks_told (Sends frame ∷ told) = marks_told told
 marks_told (Marks mark ∷ told) = mark ∷ marks_told told
 marks_told (IsDone ∷ told) = marks_told told
 
--- This book is read from the lines that were kept. Its events lead to the node as it was in the end, and its clock is the
--- node's. The answers to the lines are, in order, those to its events: so the frames in them are the frames that the book
--- sent, and the marks in them are its marks.
+-- This book is read from the lines that were kept. Its events lead to the node as it was in the end, and its clock is
+-- the node's. The answers to the lines are, in order, the answers to its events: so the frames in them are the frames
+-- that the book sent, and the marks in them are its marks.
 pub record IsBookOf (driven : Driven) (book : BookState) : Type 0 where
   pub said : AllZip Says (book_lines driven) (said_by book)
   -- each line is read in the version of the first
@@ -98,8 +100,8 @@ pub record IsBookOf (driven : Driven) (book : BookState) : Type 0 where
   pub clock_is : clock_of book.events ≡ driven.end.clock
   pub answers : AllZip IsAnswerTo leads.postings (kept_of driven.answered)
 
--- The text of the answers has these lines, which tell this: in order, exactly the frames that the book sent, each with its
--- clock, and exactly its marks.
+-- The text of the answers has these lines, which tell this: in order, exactly the frames that the book sent, each with
+-- its clock, and exactly its marks.
 pub record AreLinesTold (driven : Driven) (book : BookState) (is : IsBookOf driven book) : Type 0 where
   pub lines : List (List ℕ)
   pub told : List Told

@@ -1,4 +1,4 @@
--- What comes of reading the next line.
+-- How the next line is read.
 use Rattle.std.specs.Prelude.{ℕ, true, false, List, Bool, Option, Result, Ok, Err}
 use Rattle.std.specs.Io.KnownBytes.{IsAtEnd}
 use Rattle.ra_book_text.specs.declared.error.BookFault.{BookFault}

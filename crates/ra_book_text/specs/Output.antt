@@ -15,4 +15,5 @@ pub record HasPut (first now : Option (List ℕ)) (text : List ℕ) (out : Outpu
 -- this text was put out after what was put out before
 abbrev pub Puts : Option (List ℕ) → Option (List ℕ) → Output → Output → List ℕ → Type 0
 Puts old new before after text =
-    (first : Option (List ℕ)) (earlier : List ℕ) → HasPut first old earlier before → HasPut first new (earlier ++ text) after
+    (first : Option (List ℕ)) (earlier : List ℕ) → HasPut first old earlier before
+    → HasPut first new (earlier ++ text) after

@@ -24,7 +24,8 @@ OpensBy line text (Err Write) = ⊥
 
 -- the first line was read, with this answer
 abbrev pub Opens : Option (List ℕ) → Option (List ℕ) → List ℕ → Result FirstLine BookFault → Type 0
-Opens old new text (Ok first) = (line : List ℕ) × HasRead old new (line ∷ []) [] × SaysFirst line first × (text ≡ codes "ok\n")
+Opens old new text (Ok first) =
+    (line : List ℕ) × HasRead old new (line ∷ []) [] × SaysFirst line first × (text ≡ codes "ok\n")
 Opens old new text (Err Line) = IsNoBook old new × (text ≡ refused_line refusal.Line)
 Opens old new text (Err Read) = (part : List ℕ) × HasRead old new [] part × (text ≡ [])
 Opens old new text (Err Write) = (part : List ℕ) × HasRead old new [] part × (text ≡ [])
@@ -35,7 +36,8 @@ AnswersSome version old new before text after =
     (lines : List (List ℕ)) × (part : List ℕ) × HasRead old new lines part × AnswersAll version before lines text after
 
 -- the lines after the first were read, with these answers
-abbrev pub Serves : BookVersion → Option (List ℕ) → Option (List ℕ) → Timed → List ℕ → Timed → Result (Unit {0}) BookFault → Type 0
+abbrev pub Serves : BookVersion → Option (List ℕ) → Option (List ℕ) → Timed → List ℕ → Timed
+    → Result (Unit {0}) BookFault → Type 0
 Serves version old new before text after (Ok done) = AnswersSome version old new before text after × IsAtEnd new
 Serves version old new before text after (Err Line) = ⊥
 Serves version old new before text after (Err Read) = AnswersSome version old new before text after

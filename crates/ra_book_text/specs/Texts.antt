@@ -44,7 +44,7 @@ Says line (Happens kind) = IsEvent line kind
 abbrev pub said_by : BookState → List Said
 said_by book = Opens book.me book.nodes book.start ∷ map (λ event. Happens event.kind) book.events
 
--- the lines are those of these books, one after the other
+-- these are the lines of these books, one after the other
 abbrev pub AreLinesOf : List (List ℕ) → List BookState → Type 0
 AreLinesOf lines books = AllZip Says lines (flat_map said_by books)
 
@@ -63,9 +63,9 @@ IsBeside node nodes start book = (book.me ≢ node) × (book.nodes ≡ nodes) ×
 abbrev pub AreBeside : List BookState → Type 0
 AreBeside books = AllPairs (λ a b. IsBeside b.me b.nodes b.start a) books
 
--- The lines are right so far: they are these books, each a history, and the books are of different nodes of one cluster. Each event
--- is one of the version that the first line of its book names. The last of these versions is this one. (Before the first of these
--- lines there is no book, and no event.)
+-- The lines are right so far: they are these books, each a history, and the books are of different nodes of one
+-- cluster. A book of the version that its first line names can have each of its events. The last of these versions is
+-- this one. (Before the first of these lines there is no book, and no event.)
 pub record AreRight (lines : List (List ℕ)) (books : List BookState) : Type 0 where
   pub version : BookVersion
   pub read_in : AreReadIn One lines version
@@ -81,23 +81,25 @@ pub record AreWhole (lines : List (List ℕ)) (books ordered : List BookState) :
 
 -- ---- What happens
 
--- the node of the book takes this event: the client may ask, holds what it leaves, or waits or is queued for what it gives up, or the
--- frame is for this node and from another one; and a clock is left for it
+-- the node of the book takes this event: the client may ask, holds what it leaves, or waits or is queued for what it
+-- gives up, or the frame is for this node and from another one; and a clock is left for it
 abbrev pub CanTake : BookState → BookKind → Type 0
 CanTake book (Ask client name mode) =
     Runs book (λ node. MayAsk (resource_at node name) client × HasClock book (Ask client name mode))
 CanTake book (Leave client name) =
-    Runs book (λ node. ((entry : Entry) × Holds (resource_at node name) client entry) × HasClock book (Leave client name))
+    Runs book (λ node. ((entry : Entry) × Holds (resource_at node name) client entry)
+    × HasClock book (Leave client name))
 CanTake book (Cancel client name) =
     Runs book (λ node. IsKeptWaiting (resource_at node name) client × HasClock book (Cancel client name))
 CanTake book Forget = (book.fault ≡ None) × HasClock book Forget
-CanTake book (Receive frame) = (book.fault ≡ None) × IsForNode book.me book.nodes frame.message × HasClock book (Receive frame)
+CanTake book (Receive frame) =
+    (book.fault ≡ None) × IsForNode book.me book.nodes frame.message × HasClock book (Receive frame)
 
 -- the frame that comes by an event in this line, if one does
 abbrev pub came_by : ℕ → BookKind → List Came
 came_by line kind = map (λ frame. record { line = line; frame = frame }) (frames_in kind)
 
--- the frames that come by lines which say this, and of which the first has this number
+-- the frames that come by lines which say this, if the first of them has this number
 abbrev pub came_from : ℕ → List Said → List Came
 came_from line [] = []
 came_from line (Opens node nodes start ∷ said) = came_from (line + 1) said

@@ -25,24 +25,25 @@ use Rattle.ra_book_text.specs.Texts.{AreRight, AreWhole, Begins, CanTake, IsBesi
 
 -- ---- A wrong line, after lines that are right
 
--- it is not the first line of a book; and there is no book yet, or it has none of the forms of events, or that of an event which a book
--- of the last version does not have
+-- it begins no book; and there is no book yet, or it has no form of an event, or the form of an event that a book of
+-- the last version does not have
 abbrev pub IsNoLine : BookVersion → List BookState → List ℕ → Type 0
 IsNoLine version books line = IsNoFirst line
     × ((books ≡ []) ⊎ (((form : Form) → HasForm line form → ⊥) ⊎ IsTooNew version line))
 
 -- it is the first line of a book that is not beside one of those before it
 abbrev pub IsOfAnother : List BookState → List ℕ → Type 0
-IsOfAnother books line = (version : BookVersion) × (node : ℕ) × (nodes : ℕ) × (start : ℕ) × IsFirst line version node nodes start
+IsOfAnother books line = (version : BookVersion) × (node : ℕ) × (nodes : ℕ) × (start : ℕ)
+    × IsFirst line version node nodes start
     × Any (λ book. IsBeside node nodes start book → ⊥) books
 
--- its digits stand for no frame, or it is an event that the node of the last book does not take
+-- its digits are no frame, or it is an event that the node of the last book does not take
 abbrev pub IsRefused : BookVersion → List BookState → List ℕ → Type 0
 IsRefused version books line = (earlier : List BookState) × (last : BookState) × (books ≡ earlier ++ last ∷ [])
     × (((why : Refusal) × (why ≢ refusal.Line) × IsUnread line why)
     ⊎ ((kind : BookKind) × IsEventIn version line kind × (CanTake last kind → ⊥)))
 
--- why a line is wrong after these books, the last of which is of this version
+-- why a line is wrong after these books, if the last one is of this version
 abbrev pub IsWrongLine : BookVersion → List BookState → List ℕ → TextCause → Type 0
 IsWrongLine version books line cause.Line = IsNoLine version books line
 IsWrongLine version books line cause.Books = IsOfAnother books line
@@ -99,9 +100,11 @@ IsWrong repeats text number cause.Books = IsWrongAt text number cause.Books
     ⊎ ((lines : List (List ℕ)) × (books : List BookState) × IsText text lines × AreRight lines books × (books ≢ [])
     × (number ≡ length lines + 1) × IsMissing books)
 IsWrong repeats text number cause.Refused = IsWrongAt text number cause.Refused
-IsWrong repeats text number cause.NotSent = (lines : List (List ℕ)) × (books : List BookState) × (ordered : List BookState)
+IsWrong repeats text number cause.NotSent =
+    (lines : List (List ℕ)) × (books : List BookState) × (ordered : List BookState)
     × IsText text lines × AreWhole lines books ordered × IsFirstUnsent ordered (came_in books) number
-IsWrong repeats text number cause.Twice = (lines : List (List ℕ)) × (books : List BookState) × (ordered : List BookState)
+IsWrong repeats text number cause.Twice =
+    (lines : List (List ℕ)) × (books : List BookState) × (ordered : List BookState)
     × IsText text lines × AreWhole lines books ordered × (repeats ≡ false) × (HasUnsent ordered → ⊥)
     × IsFirstAgain (came_in books) number
 
@@ -116,7 +119,7 @@ IsUnsettled repeats text Memory = Unit {0}
 abbrev pub FitBy : (repeats : Bool) → List BookState → Type 0
 FitBy repeats ordered = MatchBool repeats (HasUnsent ordered → ⊥) (BooksFit ordered)
 
--- the text is that of all books of a cluster, each a history, and they fit
+-- the text has all books of a cluster, each a history, and they fit
 pub record HasFittingBooks (repeats : Bool) (text : List ℕ) : Type 0 where
   pub lines : List (List ℕ)
   pub books : List BookState
@@ -127,7 +130,7 @@ pub record HasFittingBooks (repeats : Bool) (text : List ℕ) : Type 0 where
 
 -- ---- A text that settles
 
--- the steps and the report are those of the settled run of these books, which fit together, with the main theorem
+-- these books fit together, and this is their settled run, with its report and the main theorem
 pub record IsRunOf (ordered : List BookState) (settled : Settled) : Type 0 where
   pub fit : BooksFit ordered
   pub moves : List Move
@@ -158,7 +161,7 @@ pub record IsSettledBy (repeats : Bool) (ordered : List BookState) (text : Settl
   pub start_is : text.start ≡ start_of ordered
   pub run_is : IsRunBy repeats ordered text.settled
 
--- the text is that of all books of a cluster, each a history, and this is the run into which they settle
+-- the text has all books of a cluster, each a history, and this is the run into which they settle
 pub record IsSettledText (repeats : Bool) (input : List ℕ) (text : SettledText) : Type 0 where
   pub lines : List (List ℕ)
   pub books : List BookState

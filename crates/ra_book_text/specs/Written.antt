@@ -24,7 +24,8 @@ IsSpelled line (kinds.Ask client name mode) = line ≡ form_text (Ask client nam
 IsSpelled line (kinds.Leave client name) = line ≡ form_text (Leave client name)
 IsSpelled line (kinds.Cancel client name) = line ≡ form_text (Cancel client name)
 IsSpelled line kinds.Forget = line ≡ form_text Forget
-IsSpelled line (kinds.Receive frame) = (bytes : List ℕ) × IsWrittenText bytes frame × (line ≡ form_text (Receive (encode_lower bytes)))
+IsSpelled line (kinds.Receive frame) =
+    (bytes : List ℕ) × IsWrittenText bytes frame × (line ≡ form_text (Receive (encode_lower bytes)))
 
 -- the line is this event, spelled so, and has no line feed
 pub record IsWrittenEvent (line : List ℕ) (kind : BookKind) : Type 0 where
@@ -32,7 +33,8 @@ pub record IsWrittenEvent (line : List ℕ) (kind : BookKind) : Type 0 where
   pub spelled : IsSpelled line kind
   pub no_feed : HasNoFeed line
 
--- the version in which these events are written: the second if a client gave up or the node forgot names, and otherwise the first
+-- the version in which these events are written: the second if a client gave up or the node forgot names, and otherwise
+-- the first
 abbrev pub version_with : BookKind → BookVersion → BookVersion
 version_with (kinds.Ask client name mode) rest = rest
 version_with (kinds.Leave client name) rest = rest
@@ -74,4 +76,5 @@ AddsEvent old new kind = (line : List ℕ) × IsWrittenEvent line kind × Adds o
 -- the draft is this text, and then the lines of these events
 abbrev pub SaysEvents : Draft → List ℕ → List BookEvent → Type 0
 SaysEvents draft first events =
-    (lines : List (List ℕ)) × AllZip IsWrittenEvent lines (map (λ event. event.kind) events) × Says draft (first ++ lines_text lines)
+    (lines : List (List ℕ)) × AllZip IsWrittenEvent lines (map (λ event. event.kind) events)
+    × Says draft (first ++ lines_text lines)

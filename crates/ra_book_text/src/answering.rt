@@ -25,7 +25,7 @@ use std::io::{BufRead, Write};
 ///
 /// # Errors
 ///
-/// `Line`: it is not that of a book, or the input ends before it. This was put out. `Read`: the reader failed. `Write`:
+/// `Line`: it begins no book, or the input ends before it does. This was put out. `Read`: the reader failed. `Write`:
 /// the writer failed.
 fn take_first<B: BufRead, W: Write>(
     reader: &mut B,
@@ -146,7 +146,7 @@ fn answer_from<B: BufRead, W: Write>(
 ///
 /// The first that comes:
 ///
-/// 1. `Line`: the first line is not that of a book, or the input ends before it does. The answer is `refused Line`.
+/// 1. `Line`: the first line begins no book, or the input ends before it does. The answer is `refused Line`.
 /// 2. `Read`: the reader failed. It is not tried again, and all answers were written.
 /// 3. `Write`: the writer failed, and a prefix of the answers was written. Nothing is written after that.
 pub fn answer_book<B: BufRead, W: Write>(

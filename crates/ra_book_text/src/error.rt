@@ -4,7 +4,7 @@ use thiserror::Error;
 /// Why a book was not answered to its end.
 #[derive(Clone, Copy, Debug, PartialEq, Eq, Error)]
 pub enum BookFault {
-    /// The first line is not that of a book, or the input ends before it does. This was answered.
+    /// The first line begins no book, or the input ends before it does. This was answered.
     Line,
     /// The reader failed.
     Read,

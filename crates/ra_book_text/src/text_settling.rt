@@ -179,8 +179,8 @@ fn settle_lines(alloc: Global, text: &[u8], repeats: bool) -> Result<SettledText
 /// [`settle_with_copies`] says.
 ///
 /// It keeps the books, and the frames that came with the numbers of their lines, so that memory is linear in the text.
-/// With n lines the cost is that of the events at their nodes, and of [`settle`], which is n log n at most. If memory
-/// for an index is lacking, to look for `Twice` takes quadratic time.
+/// With n lines it costs what the events cost at their nodes, and what [`settle`] costs, which is n log n at most. If
+/// memory for an index is lacking, to look for `Twice` takes quadratic time.
 ///
 /// # Errors
 ///
@@ -199,8 +199,7 @@ pub fn settle_text(
     text: &[u8],
     repeats: bool,
 ) -> Result<SettledText, SettleTextError>
-    // The books are those of a cluster, and this is their one run, with the main theorem. Without `repeats` they fit
-    // together.
+    // The books are a cluster's, and this is their one run, with the main theorem. Without `repeats` they fit together.
     ensures settled { IfOk result (IsSettledText repeats text.now) }
     // A refusal comes only for its cause, at its line.
     ensures refused { IfErr result (IsUnsettled repeats text.now) }

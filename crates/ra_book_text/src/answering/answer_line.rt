@@ -19,8 +19,8 @@ use std::io::Write;
 ///
 /// # Errors
 ///
-/// `Line` for a line that is too long or that the version of the book does not have, and those of `event_of` and of
-/// [`TimedNode::take`]. The node is as before.
+/// `Line` for a line that is too long or that the version of the book does not have, and the errors of `event_of` and
+/// of [`TimedNode::take`]. The node is as before.
 fn react(
     alloc: Global,
     version: BookVersion,

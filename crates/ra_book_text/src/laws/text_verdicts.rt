@@ -18,7 +18,7 @@ pub fn texts_of_books_are_read_in_one_way()
     ensures said { (line : List ℕ) (a b : Said) → Says line a → Says line b → a ≡ b }
     ensures books { (lines : List (List ℕ)) (books others : List BookState)
         → AreRight lines books → AreRight lines others → books ≡ others }
-    // The version of the last book is that of its first line.
+    // The first line of the last book names this version.
     ensures version { (lines : List (List ℕ)) (books others : List BookState) (is : AreRight lines books)
         (other : AreRight lines others) → is.version ≡ other.version }
     // No line is wrong among lines that are right, and none is wrong for two causes.

@@ -115,8 +115,8 @@ impl Gathered {
         }
     }
 
-    /// Takes the line of this number, which comes after those so far. The cost is that of the event at its node, and at
-    /// a first line linear in the number of books.
+    /// Takes the line of this number, which comes after those so far. It costs what the event costs at its node. For
+    /// the first line of a book, the cost is linear in the number of books.
     ///
     /// # Errors
     ///

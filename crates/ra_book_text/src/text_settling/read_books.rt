@@ -60,7 +60,7 @@ fn read_lines(alloc: Global, gathered: &mut Gathered, text: &[u8]) -> Result<u64
 }
 
 /// Reads a text of books. Returns what was gathered, and the number that the line after the last one would have. A last
-/// line without a line feed is passed over. The cost is that of the events at their nodes, and linear in the text.
+/// line without a line feed is passed over. It costs what the events cost at their nodes, and linear time in the text.
 ///
 /// # Errors
 ///

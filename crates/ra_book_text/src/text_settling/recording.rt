@@ -6,7 +6,7 @@ use ra_book::{Book, BookError, BookKind};
 use ra_frame::{encoded, round_trip};
 use std::alloc::Global;
 
-/// Makes an event happen at the node of a book, and keeps it there. The cost is that of the book's call.
+/// Makes an event happen at the node of a book, and keeps it there. It costs what the book's call costs.
 ///
 /// # Errors
 ///
