@@ -20,11 +20,12 @@ look P ps m frame h i = subst (Each P) i.1 (at_place P ps i.0 h)
 
 -- ---- How a host goes on
 
--- the link says what is in the book
+-- the link says what is in the book, and no host that is up has ended
 pub record IsBook (h : Host) : Type 0 where
   pub sent : h.sent_kept ≤ length h.sent
   pub taken : h.taken_kept ≤ length h.taken
   pub link : h.up ≡ true → BookOf h h.link
+  pub unaccused : h.up ≡ true → h.accused ≡ false
 
 -- an answer to the open question came, and its start is adopted
 pub record IsAnswered (x l : Link) (back : List Packet) : Type 0 where
@@ -85,13 +86,14 @@ abbrev pub Questions : Link → Link → List Packet → Type 0
 Questions x l back = IsSameQuestion x l back ⊎ (IsNextQuestion x l ⊎ IsAnswered x l back)
 
 -- an ack for this start came, whose count is at most this
-pub record Confirms (own most : ℕ) (back : List Packet) : Type 0 where
+pub record Confirms (l : Link) (most : ℕ) (back : List Packet) : Type 0 where
   pub start : ℕ
   pub other : ℕ
   pub kept : ℕ
   pub frame : List ℕ
   pub said : IsIn back (Ack start other kept) frame
-  pub own_start : other ≡ own
+  pub adopted : l.adopted ≡ Some start
+  pub own_start : other ≡ l.own
   pub at_most : kept ≤ most
 
 -- the next frame of the adopted start came, and is taken
@@ -122,7 +124,7 @@ pub record GoesOn (x z : Host) (back : List Packet) : Type 0 where
   pub ready : x.link.ready ≡ true → z.link.ready ≡ true
   pub readied : z.link.ready ≡ true → (x.link.ready ≡ true) ⊎ IsReadied x z
   pub acknowledged : x.link.acknowledged ≤ z.link.acknowledged
-  pub confirmed : z.link.confirmed ≡ true → (x.link.confirmed ≡ true) ⊎ Confirms x.link.own z.link.acknowledged back
+  pub confirmed : z.link.confirmed ≡ true → (x.link.confirmed ≡ true) ⊎ Confirms x.link z.link.acknowledged back
   pub unknown : z.link.adopted ≡ None → z.link.acknowledged ≡ x.link.acknowledged
 
 pub record IsFresh (x z : Host) : Type 0 where
@@ -153,6 +155,14 @@ Tells z back (Old count) frame = (z.link.is_old ≡ true) × (count ≡ z.link.a
 
 -- ---- Why a host ends by itself
 
+-- it answers the open question, or it is an ack of the adopted start for this one
+abbrev pub CountsFor : Link → Message → Type 0
+CountsFor l (Hello start question) = Unit {0}
+CountsFor l (Welcome asker question start kept) = (asker ≡ l.own) × (question ≡ l.asked) × (is_open l.pending ≡ true)
+CountsFor l (Frame start number) = Unit {0}
+CountsFor l (Ack start other kept) = (l.adopted ≡ Some start) × (other ≡ l.own)
+CountsFor l (Old count) = Unit {0}
+
 -- a count of the other host is more than it has sent
 pub record HearsAbove (x : Host) (back : List Packet) : Type 0 where
   pub message : Message
@@ -160,6 +170,7 @@ pub record HearsAbove (x : Host) (back : List Packet) : Type 0 where
   pub said : IsIn back message frame
   pub up : x.up ≡ true
   pub ready : x.link.ready ≡ true
+  pub counts : CountsFor x.link message
   pub above : x.link.sent < count_in message
 
 -- it is told that its book is old

@@ -12,7 +12,7 @@ use Rattle.ra_link.specs.Pair.{Host, Packet, Event, silent, packets, framed, end
 use Rattle.ra_link.specs.Pair.Event.{Start, Connects, Comes, Replays, Makes, Syncs, Says_hello, Says_ack, Says_old, Says_frame, Crashes}
 use Rattle.ra_link.specs.PutBack.{puts_back}
 use Rattle.ra_link.proofs.Flow.{BookOf, take_itself, front_of_front}
-use Rattle.ra_link.proofs.Going.{Confirms, EndsFor, Goes, GoesOn, IsBook, IsCut, IsIn, IsSameQuestion, Questions, Says, nonce_known, none_is_some}
+use Rattle.ra_link.proofs.Going.{Confirms, CountsFor, EndsFor, Goes, GoesOn, IsBook, IsCut, IsIn, IsSameQuestion, Questions, Says, nonce_known, none_is_some}
 
 -- ---- Links
 
@@ -23,7 +23,7 @@ record LinkGoes (x : Host) (back : List Packet) (l : Link) : Type 0 where
   book : BookOf x l
   ready : l.ready ≡ x.link.ready
   acknowledged : x.link.acknowledged ≤ l.acknowledged
-  confirmed : l.confirmed ≡ true → (x.link.confirmed ≡ true) ⊎ Confirms x.link.own l.acknowledged back
+  confirmed : l.confirmed ≡ true → (x.link.confirmed ≡ true) ⊎ Confirms x.link l.acknowledged back
   unknown : l.adopted ≡ None → l.acknowledged ≡ x.link.acknowledged
 
 same_question : (x : Link) (back : List Packet) → IsSameQuestion x x back
@@ -124,6 +124,7 @@ ack_goes x back start other kept frame i k =
         kept = kept;
         frame = frame;
         said = i;
+        adopted = adopted;
         own_start = eqb-true other l.own (and_parts (is_nonce l.adopted start) (other == l.own) e).1;
         at_most = omega arith;
       });
@@ -157,7 +158,7 @@ links_on x back up l g =
 links_saying : (x : Host) (back : List Packet) → IsBook x → x.up ≡ true → (l : Link) (says : List Packet) → LinkGoes x back l → AllByRecursion (Says (linked x l) back) says → Goes x back (record { host = linked x l; says = says })
 links_saying x back k up l says g s =
     record {
-      book = record { sent = k.sent; taken = k.taken; link = λ _. g.book };
+      book = record { sent = k.sent; taken = k.taken; link = λ _. g.book; unaccused = k.unaccused };
       starts = λ _ u. u;
       up = λ _. inl (links_on x back up l g);
       down = λ d. absurd (true≢false (sym up ∙ d));
@@ -182,7 +183,7 @@ stays_down x back k down =
 falls : (x z : Host) (back : List Packet) → z.up ≡ false → z.starts ≡ x.starts → z.sent_kept ≤ length z.sent → z.taken_kept ≤ length z.taken → IsCut x z → (z.accused ≡ true → (x.accused ≡ true) ⊎ EndsFor x back) → Goes x back (silent z)
 falls x z back down same sent taken cut why =
     record {
-      book = record { sent = sent; taken = taken; link = λ up. absurd (true≢false (sym up ∙ down)) };
+      book = record { sent = sent; taken = taken; link = λ up. absurd (true≢false (sym up ∙ down)); unaccused = λ up. absurd (true≢false (sym up ∙ down)) };
       starts = λ start u. ap (was_used start) same ∙ u;
       up = λ up. absurd (true≢false (sym up ∙ down));
       down = λ _. cut;
@@ -196,10 +197,10 @@ ends_goes x back k why = falls x (record x { up = false; accused = true }) back 
 front_is_cut : (m : ℕ) (xs : List (List ℕ)) → take m xs ≡ take (length (take m xs)) xs
 front_is_cut m xs = front_of_front m xs xs (sym (take_itself xs))
 
-hears_above : (x : Host) (back : List Packet) → x.up ≡ true → (m : Message) (frame : List ℕ) → IsIn back m frame → is_above x.link (count_in m) ≡ true → EndsFor x back
-hears_above x back up m frame i e =
+hears_above : (x : Host) (back : List Packet) → x.up ≡ true → (m : Message) (frame : List ℕ) → IsIn back m frame → CountsFor x.link m → is_above x.link (count_in m) ≡ true → EndsFor x back
+hears_above x back up m frame i counts e =
     let both = and_parts x.link.ready (nat_lt x.link.sent (count_in m)) e in
-    inl (record { message = m; frame = frame; said = i; up = up; ready = both.0; above = ltb-true x.link.sent (count_in m) both.1 })
+    inl (record { message = m; frame = frame; said = i; up = up; ready = both.0; counts = counts; above = ltb-true x.link.sent (count_in m) both.1 })
 
 hears_goes : (x : Host) (back : List Packet) → IsBook x → x.up ≡ true → (m : Message) (frame : List ℕ) → IsIn back m frame → Goes x back (hears x m frame)
 hears_goes x back k up (Hello start question) frame i =
@@ -210,7 +211,12 @@ hears_goes x back k up (Hello start question) frame i =
 hears_goes x back k up (Welcome asker question start kept) frame i =
     let l = hears_welcome x.link asker question start kept in
     cond_both (is_answer x.link asker question && is_above x.link kept) (ends x) (silent (linked x l)) (Goes x back)
-    (λ e. ends_goes x back k (hears_above x back up (Welcome asker question start kept) frame i (and_parts (is_answer x.link asker question) (is_above x.link kept) e).1))
+    (λ e.
+    let both = and_parts (is_answer x.link asker question) (is_above x.link kept) e in
+    let answer = and_parts (asker == x.link.own && question == x.link.asked) (is_open x.link.pending) both.0 in
+    let names = and_parts (asker == x.link.own) (question == x.link.asked) answer.0 in
+    let counts : CountsFor x.link (Welcome asker question start kept) = (eqb-true asker x.link.own names.0, eqb-true question x.link.asked names.1, answer.1) in
+    ends_goes x back k (hears_above x back up (Welcome asker question start kept) frame i counts both.1))
     (λ _. links x back k up l (welcome_goes x back asker question start kept frame i (k.link up)))
 hears_goes x back k up (Frame start number) frame i =
     let b = k.link up in
@@ -225,6 +231,7 @@ hears_goes x back k up (Frame start number) frame i =
     subst (λ link. Goes x back (silent (record x { link = link; taken = x.taken ++ frame ∷ [] }))) same
     (record {
       book = record {
+        unaccused = k.unaccused;
         sent = k.sent;
         taken = omega (arith, k.taken, length_push x.taken frame);
         link = λ _. record { taken_all = ap (λ j. j + 1) b.taken_all ∙ sym (length_push x.taken frame); kept_all = b.kept_all; made_all = b.made_all; sent_all = b.sent_all; whole = b.whole };
@@ -261,7 +268,11 @@ hears_goes x back k up (Frame start number) frame i =
 hears_goes x back k up (Ack start other kept) frame i =
     let l = hears_ack x.link start other kept in
     cond_both (is_ack x.link start other && is_above x.link kept) (ends x) (silent (linked x l)) (Goes x back)
-    (λ e. ends_goes x back k (hears_above x back up (Ack start other kept) frame i (and_parts (is_ack x.link start other) (is_above x.link kept) e).1))
+    (λ e.
+    let both = and_parts (is_ack x.link start other) (is_above x.link kept) e in
+    let names = and_parts (is_nonce x.link.adopted start) (other == x.link.own) both.0 in
+    let counts : CountsFor x.link (Ack start other kept) = (nonce_known x.link.adopted start names.0, eqb-true other x.link.own names.1) in
+    ends_goes x back k (hears_above x back up (Ack start other kept) frame i counts both.1))
     (λ _. links x back k up l (ack_goes x back start other kept frame i (k.link up)))
 hears_goes x back k up (Old count) frame i =
     cond_both (not x.link.ready && nat_lt x.link.taken count) (ends x) (silent x) (Goes x back)
@@ -288,6 +299,7 @@ replays_goes x back k up =
     (λ enough.
     record {
       book = record {
+        unaccused = k.unaccused;
         sent = k.sent;
         taken = k.taken;
         link = λ _. record { taken_all = b.taken_all; kept_all = b.kept_all; made_all = λ _. refl; sent_all = λ _. sym (b.whole before); whole = λ f. absurd (true≢false f) };
@@ -322,6 +334,7 @@ makes_goes x back k up frame =
     let is_ready : x.link.ready ≡ true = (and_parts x.link.ready (nat_lt x.link.made greatest) e).0 in
     record {
       book = record {
+        unaccused = k.unaccused;
         sent = omega (arith, k.sent, length_push x.sent frame);
         taken = k.taken;
         link = λ _.
@@ -360,6 +373,7 @@ syncs_goes x back k up =
     let b = k.link up in
     record {
       book = record {
+        unaccused = k.unaccused;
         sent = omega arith;
         taken = omega arith;
         link = λ _. record { taken_all = b.taken_all; kept_all = b.taken_all; made_all = b.made_all; sent_all = b.made_all; whole = λ _. refl };
@@ -420,6 +434,7 @@ begins_goes : (x : Host) (back : List Packet) (nonce : ℕ) → was_used nonce x
 begins_goes x back nonce new =
     record {
       book = record {
+        unaccused = λ _. refl;
         sent = omega arith;
         taken = omega arith;
         link = λ _. record { taken_all = refl; kept_all = refl; made_all = λ t. absurd (false≢true t); sent_all = λ t. absurd (false≢true t); whole = λ _. refl };
@@ -427,7 +442,7 @@ begins_goes x back nonce new =
       starts = λ start u. or_right (start == nonce) (was_used start x.starts) u;
       up = λ _. inr (record { unused = new; used = or_left (nonce == nonce) (was_used nonce x.starts) (eq-eqb nonce nonce refl); ready = refl; confirmed = refl; adopted = refl; unknown = refl; pending = refl; is_old = refl; sent = refl; taken = refl });
       down = λ d. absurd (true≢false d);
-      accused = λ a. inl a;
+      accused = λ a. absurd (false≢true a);
       says = tt;
     }
 

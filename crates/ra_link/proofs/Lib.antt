@@ -12,3 +12,4 @@ pub mod Rounds
 pub mod Progress
 pub mod Finding
 pub mod Lasting
+pub mod Bounds

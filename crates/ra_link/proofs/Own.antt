@@ -217,7 +217,7 @@ run_two p j w [] never_back = w
 run_two p j w (m ∷ rest) never_back = run_two (moves p m.0 m.1) (book_after p m.0 m.1 j w.book).0 (two_own p j w m.0 m.1 never_back.0) rest never_back.1
 
 new_book : IsBook new_host
-new_book = record { sent = omega arith; taken = omega arith; link = λ up. absurd (false≢true up) }
+new_book = record { sent = omega arith; taken = omega arith; link = λ up. absurd (false≢true up); unaccused = λ up. absurd (false≢true up) }
 
 pub new_own : OwnBook new_host new_host [] []
 new_own =

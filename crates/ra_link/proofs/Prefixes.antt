@@ -259,7 +259,7 @@ run_kept p k h [] = h
 run_kept p k h (m ∷ rest) = run_kept (moves p m.0 m.1) (move_known p k m.0 m.1) (move_kept p k h m.0 m.1) rest
 
 new_fit : IsFit new_host
-new_fit = record { book = record { sent = omega arith; taken = omega arith; link = λ up. absurd (false≢true up) }; unknown = λ up. absurd (false≢true up) }
+new_fit = record { book = record { sent = omega arith; taken = omega arith; link = λ up. absurd (false≢true up); unaccused = λ up. absurd (false≢true up) }; unknown = λ up. absurd (false≢true up) }
 
 new_way : Way new_host new_host [] []
 new_way =

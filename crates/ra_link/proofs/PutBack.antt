@@ -210,7 +210,7 @@ new_own : IsOwn new_host
 new_own =
     record {
       own = λ up. absurd (false≢true up);
-      book = record { sent = omega arith; taken = omega arith; link = λ up. absurd (false≢true up) };
+      book = record { sent = omega arith; taken = omega arith; link = λ up. absurd (false≢true up); unaccused = λ up. absurd (false≢true up) };
     }
 
 pub known : (all : List (Who × Move)) → IsKnown (after_moves all)

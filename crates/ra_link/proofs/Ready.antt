@@ -196,7 +196,7 @@ pub record Reaches (a b : Host) (there back : List Packet) : Type 0 where
   pub ready : a.up ≡ true → a.link.ready ≡ true → Settled a.link.own b there × (length b.taken ≤ a.sent_kept)
   pub frames : AllByRecursion (OwnFits a) there
 
-not_ready : (x z : Host) (back : List Packet) → GoesOn x z back → z.link.ready ≡ false → x.link.ready ≡ false
+pub not_ready : (x z : Host) (back : List Packet) → GoesOn x z back → z.link.ready ≡ false → x.link.ready ≡ false
 not_ready x z back on f = elim (cases_Bool x.link.ready) [ inl r ↦ absurd (true≢false (sym (on.ready r) ∙ f)) | inr n ↦ n ]
 
 -- the sender takes a turn
@@ -323,7 +323,7 @@ ack_in a x t there g n f (Ack start other kept) h = λ up own.
     (settled_in a x t there g n before.0, λ unready. unready_in a x t there kept g f up before.0 unready (before.1 unready))
 ack_in a x t there g n f (Old count) h = tt
 
-offer_closed : (P : ℕ → Type 0) (z : Host) → is_open z.link.pending ≡ false → (m : Message) → OfferIn P z m
+pub offer_closed : (P : ℕ → Type 0) (z : Host) → is_open z.link.pending ≡ false → (m : Message) → OfferIn P z m
 offer_closed P z closed (Hello start question) = tt
 offer_closed P z closed (Welcome asker question start kept) = λ _ _ _ opened. absurd (true≢false (sym opened ∙ closed))
 offer_closed P z closed (Frame start number) = tt

@@ -8,8 +8,8 @@ use Rattle.ra_link.specs.Link.{greatest, started, asks, hello_of, hears_hello, w
 
 -- One of the two hosts. `sent` are the frames in its book that its node has sent to the other host, and `taken` those
 -- that it has taken from it. Of both so many are on its disk as `sent_kept` and `taken_kept` say; a crash may lose the
--- others. `starts` are the nonces of its starts. It is accused if it has ever ended by itself, since a count showed
--- that its book is old.
+-- others. `starts` are the nonces of its starts. It is accused if it has ended by itself since it started last: a count
+-- showed that its book is old.
 pub record Host : Type 0 where
   pub up : Bool
   pub accused : Bool
@@ -77,6 +77,7 @@ abbrev pub begins : Host → ℕ → Host
 begins h nonce =
     record h {
       up = true;
+      accused = false;
       link = started nonce (length h.taken);
       sent_kept = length h.sent;
       taken_kept = length h.taken;

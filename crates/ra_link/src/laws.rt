@@ -101,6 +101,13 @@ pub fn a_ready_host_passes_old_over()
         → happens p who (Comes which) ≡ p }
 {}
 
+/// A ready host never ends by itself, whatever comes, even if books are put back. So a host whose book is old ends before
+/// it says or takes a frame.
+pub fn a_ready_host_is_not_accused()
+    ensures { (all : List (Who × Move)) (who : Who) (event : Event) → let p = after_moves all in
+        (this who p).up ≡ true → (this who p).link.ready ≡ true → (this who (happens p who event)).accused ≡ false }
+{}
+
 /// Only an old book is found out: a host whose own book was never put back never ends by itself, and what the other one
 /// has taken is a prefix of what is on its disk, even if the other's books are put back.
 pub fn a_host_whose_own_book_is_whole_is_not_accused()

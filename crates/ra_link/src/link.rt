@@ -170,7 +170,7 @@ impl Link {
     /// # Errors
     ///
     /// `Old`: it answers the open question, this host is ready, and the count is more than it has sent. The link is
-    /// then as before.
+    /// then as before. Only a forged answer does so (`a_ready_host_is_not_accused`).
     pub fn hear_welcome(
         &mut self,
         asker: u128,
@@ -222,7 +222,8 @@ impl Link {
     ///
     /// # Errors
     ///
-    /// `Old`: it is one, this host is ready, and the count is more than it has sent. The link is then as before.
+    /// `Old`: it is one, this host is ready, and the count is more than it has sent. The link is then as before. Only a
+    /// forged ack does so (`a_ready_host_is_not_accused`).
     pub fn hear_ack(&mut self, start: u128, other: u128, kept: u64) -> Result<(), BookError>
         ensures link { IsOk result → self.new ≡ hears_ack self.old start other kept }
         ensures old { IsErrOf result BookError.Old ↔ IsTrue (ack_accuses self.old start other kept) }
