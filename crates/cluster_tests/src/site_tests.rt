@@ -1,4 +1,5 @@
 //! Sites, and the post between them.
+pub mod ends_of_times;
 pub mod site_cluster;
 pub mod site_ends;
 pub mod site_steps;

@@ -8,3 +8,4 @@ pub mod giving_up;
 pub mod owned_cluster;
 pub mod plays;
 pub mod sleeping_clients;
+pub mod ticking_clock;

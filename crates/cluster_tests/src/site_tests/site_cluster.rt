@@ -10,6 +10,7 @@ use std::alloc::Global;
 use std::process::Abort;
 use std::sync::atomic::AtomicU64;
 use std::sync::{Mutex, Wait};
+use std::time::{Clock, Duration};
 use test_support::r;
 
 /// What a client gets that locks a name on a thread of its own.
@@ -90,6 +91,36 @@ impl Cluster {
             return Err(NO_SITE);
         }
         site.lock(rt, alloc, client, r(), mode, &self.post, &self.sites, gate)
+    }
+
+    /// Has a client lock `r` exclusively at a site, within this time.
+    pub fn lock_within_at<R: Wait + Clock>(
+        &self,
+        rt: &R,
+        alloc: Global,
+        site: &Site,
+        client: u32,
+        time: Duration,
+    ) -> Result<Option<Grant>, SiteError> {
+        if !is_site_of(site, &self.sites) {
+            return Err(NO_SITE);
+        }
+        let (mode, post, gate) = (Mode::Exclusive, &self.post, &self.gate);
+        site.lock_within(rt, alloc, client, r(), mode, time, post, &self.sites, gate)
+    }
+
+    /// Has a client give up `r` at a site.
+    pub fn cancel_at<R: Wait>(
+        &self,
+        rt: &R,
+        alloc: Global,
+        site: &Site,
+        client: u32,
+    ) -> Result<(), SiteError> {
+        if !is_site_of(site, &self.sites) {
+            return Err(NO_SITE);
+        }
+        site.cancel(rt, alloc, client, r(), &self.post, &self.sites, &self.gate)
     }
 
     /// Has a client unlock `r` at a site.
