@@ -37,8 +37,8 @@ pub record AnswersEnding {T : Type 0} (book : BookState) (ending : Ending) (answ
 abbrev pub RefusesEnding : BookState → Ending → BookError → Type 0
 RefusesEnding book ending refused = AnswersEnding {T = Posted} book ending (Err refused)
 
--- Whether it ended the request at a node, and what it did: it sent and marked what the outcome has; or the client has no
--- such request, and all is as before.
+-- Whether it ended the request at a node, and what it did: it sent and marked what the outcome has; or the client has
+-- no such request, and all is as before.
 abbrev pub EndsAt : Ending → NodeState → Outcome → Bool → NodeState → Outcome → Type 0
 EndsAt ending old lent true new outcome = MayTake old (kind_of ending)
     × NodeEvent old (node_event (kind_of ending)) outcome.sends.items outcome.marks.items new
