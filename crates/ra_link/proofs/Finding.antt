@@ -12,7 +12,8 @@ use Rattle.ra_link.specs.Progress.{asks_and_tells, syncs_and_acknowledges, findi
 use Rattle.ra_link.specs.PutBack.{Move, after_moves}
 use Rattle.ra_link.proofs.PutBack.{known}
 use Rattle.ra_link.proofs.Prefixes.{kept, known_is_there}
-use Rattle.ra_link.proofs.Rounds.{AllCalm, IsSure, acknowledged, both_acknowledge, both_replay, BothAsked, IsFirst, calm_acks, ended_stays, first_from, first_settles, hello_as_before, one_acts, run_ended, run_sure, run_swap, seconds_ended, settles, swap, swap_ended, swap_sure, turned_one, turned_two, two_acts}
+use Rattle.ra_link.proofs.Rounds.{AllCalm, IsSure, acknowledged, both_acknowledge, both_replay, BothAsked, IsFirst, calm_acks, ended_stays, first_from, hello_as_before, one_acts, run_ended, run_sure, run_swap, seconds_ended, swap, swap_ended, swap_sure, turned_one, turned_two, two_acts}
+use Rattle.ra_link.proofs.Seconds.{first_settles, settles}
 
 -- ---- A question, its answer, and what it shows
 

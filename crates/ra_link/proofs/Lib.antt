@@ -9,6 +9,7 @@ pub mod Own
 pub mod Honest
 pub mod NoOld
 pub mod Rounds
+pub mod Seconds
 pub mod Progress
 pub mod Finding
 pub mod Lasting

@@ -13,7 +13,8 @@ use Rattle.ra_link.proofs.Flow.{BookOf}
 use Rattle.ra_link.proofs.PutBack.{known}
 use Rattle.ra_link.proofs.Prefixes.{kept}
 use Rattle.ra_link.proofs.Honest.{IsWhole, run_whole, whole}
-use Rattle.ra_link.proofs.Rounds.{BothAsked, BothAcked, BothSettled, IsFirst, IsSure, acknowledged, both_acknowledge, both_replay, first_from, first_settles, hello_as_before, one_acts, replayed, run_sure, run_swap, settles, swap, swap_sure, turned_one, two_acts}
+use Rattle.ra_link.proofs.Rounds.{BothAsked, BothAcked, IsFirst, IsSure, acknowledged, both_acknowledge, both_replay, first_from, hello_as_before, one_acts, replayed, run_sure, run_swap, swap, swap_sure, turned_one, two_acts}
+use Rattle.ra_link.proofs.Seconds.{BothSettled, first_settles, settles}
 
 -- ---- A question and its answer
 

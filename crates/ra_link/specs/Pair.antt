@@ -1,10 +1,10 @@
 -- Two hosts with their books and disks, and the network between them: all that was ever said, and any of it may come at
 -- any time, and again.
-use Rattle.std.specs.Prelude.{◌≡◌, ℕ, ◌-◌, ◌==◌, Bool, true, false, not, ◌&&◌, ◌||◌, if◌then◌else◌, Option, Some, None, List, [], ◌∷◌, ◌++◌, length, get_or, take, max, nat_lt, slice_get}
+use Rattle.std.specs.Prelude.{◌≡◌, ℕ, ◌-◌, ◌==◌, Bool, true, false, ◌&&◌, ◌||◌, if◌then◌else◌, Option, Some, None, List, [], ◌∷◌, ◌++◌, length, get_or, take, max, nat_lt, slice_get}
 use Rattle.ra_link.specs.declared.message.Message.{Message}
 use Rattle.ra_link.specs.declared.message.Message.TheVariants.{Hello, Welcome, Frame, Ack, Old}
 use Rattle.ra_link.specs.declared.link.Link.{Link}
-use Rattle.ra_link.specs.Link.{greatest, started, asks, hello_of, hears_hello, welcome_of, is_answer, is_above, hears_welcome, is_ack, hears_ack, ack_of, old_of, is_next, hears_frame, frame_of, makes, syncs, replays}
+use Rattle.ra_link.specs.Link.{greatest, started, asks, hello_of, hears_hello, welcome_of, welcome_accuses, hears_welcome, ack_accuses, hears_ack, old_accuses, ack_of, old_of, is_next, hears_frame, frame_of, makes, syncs, may_replay, replays}
 
 -- One of the two hosts. `sent` are the frames in its book that its node has sent to the other host, and `taken` those
 -- that it has taken from it. Of both so many are on its disk as `sent_kept` and `taken_kept` say; a crash may lose the
@@ -88,7 +88,7 @@ abbrev pub hears : Host → Message → List ℕ → Turn
 hears h (Hello start question) frame =
     record { host = linked h (hears_hello h.link start); says = packets (Some (welcome_of h.link start question)) }
 hears h (Welcome asker question start kept) frame =
-    if is_answer h.link asker question && is_above h.link kept
+    if welcome_accuses h.link asker question kept
     then ends h
     else silent (linked h (hears_welcome h.link asker question start kept))
 hears h (Frame start number) frame =
@@ -96,10 +96,10 @@ hears h (Frame start number) frame =
     then silent (record h { link = hears_frame h.link start number; taken = h.taken ++ frame ∷ [] })
     else silent h
 hears h (Ack start other kept) frame =
-    if is_ack h.link start other && is_above h.link kept
+    if ack_accuses h.link start other kept
     then ends h
     else silent (linked h (hears_ack h.link start other kept))
-hears h (Old count) frame = if not h.link.ready && nat_lt h.link.taken count then ends h else silent h
+hears h (Old count) frame = if old_accuses h.link count then ends h else silent h
 
 abbrev pub hears_packet : Host → Option Packet → Turn
 hears_packet h None = silent h
@@ -109,7 +109,7 @@ hears_packet h (Some p) = hears h p.message p.frame
 -- instead.
 abbrev pub replays_book : Host → Turn
 replays_book h =
-    if not h.link.ready && h.link.confirmed
+    if may_replay h.link
     then (if nat_lt (length h.sent) h.link.acknowledged
     then ends h
     else silent (linked h (replays h.link (length h.sent))))
