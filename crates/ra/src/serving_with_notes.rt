@@ -43,15 +43,18 @@ pub fn refuse_arguments_with_note<W: Write, N: Write>(
 ///   was shrunk, it is about the shorter one, and another line says by how much.
 /// - If a text is a trace or a mark log, a line says what is left at its end, if anything is, or that a log has no
 ///   mark.
+/// - If requests were withdrawn in a text that was checked or drawn, or in books that settled, a line says which, and
+///   who went on because of that.
 /// - There is a line for each option that has no effect, if the policy `listed` has no choices, if a finished run
 ///   leaves names locked, and for the seed of a run that was found.
 /// - There is a line if `writer` failed, unless that is a pipe that is no longer read.
 ///
 /// If the input is at a terminal, the first line says what the command waits for. While many seeds take long, it writes
-/// there how far it is. Each line begins with `ra: `. Nothing of it goes to
-/// `writer`, and it is left out if memory or `notes` fails, which changes nothing else. To find the place in a script
-/// it is read once more. To find which client waits for which it is run once more, and shrunk once more if it was. For
-/// the mark that is due, a trace that was to be drawn is checked once more.
+/// there how far it is. Each line begins with `ra: `. No note goes to `writer`, and a note is left out if memory or
+/// `notes` fails, which changes nothing else. To find the place in a script, it is read once more. To find which client
+/// waits for which, it is run once more, and shrunk once more if it was. For the mark that is due, a trace that was to
+/// be drawn is checked once more. For what was withdrawn, books in which a client gives up are settled once more, if
+/// they have at most 16,777,216 bytes.
 pub fn serve_with_notes<T: Threads + Wait + Sync, R: BufRead, W: Write, N: Write>(
     rt: &T,
     alloc: Global,

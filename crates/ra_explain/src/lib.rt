@@ -17,3 +17,4 @@ pub use trace_notes::open_request::{OpenRequest, Reached, Stage};
 pub use trace_notes::open_requests::{OpenRequests, Sought};
 pub use trace_notes::refused_step::{push_exhausted, push_stage, push_waits_not};
 pub use trace_notes::text_end::end_note;
+pub use trace_notes::withdrawals::{WithdrawalScope, has_cancels, withdrawals_note};

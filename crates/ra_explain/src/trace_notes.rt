@@ -1,7 +1,9 @@
 //! What is said of a line of a trace or a mark log, and of its end.
+pub mod blocked_requests;
 pub mod blockers;
 pub mod due_mark;
 pub mod line_cause;
+pub mod line_counts;
 pub mod line_fault;
 pub mod line_field;
 pub mod line_form;

@@ -18,6 +18,7 @@ mod run_notes;
 mod script_notes;
 mod seed_progress;
 mod settle_notes;
+mod settled_notes;
 mod unused_options;
 mod usage_notes;
 mod waiting_note;

@@ -1,6 +1,8 @@
 //! Which clients wait, are queued and hold after lines of a trace or of a mark log, or after marks.
 use crate::trace_notes::open_request::{OpenRequest, Stage};
-use ra_stamp::{Entry, Mark, Name, NodeId};
+use ra_stamp::{Entry, Mark, Name, NodeId, Stamp};
+use ra_trace::Line;
+use ra_world::Step;
 use std::alloc::Global;
 use std::collections::HashMap;
 
@@ -60,6 +62,38 @@ impl OpenRequests {
         }
     }
 
+    /// Takes the line with this number. A client that asks is queued until its request is made.
+    pub fn take_line(&mut self, line: &Option<Line>, number: u64) {
+        match line {
+            Some(
+                Line::Stepped(
+                    Step::Ask {
+                        node,
+                        client,
+                        name,
+                        mode,
+                    },
+                ),
+            ) => {
+                let queued = Entry {
+                    name: *name,
+                    stamp: Stamp {
+                        seq: 1,
+                        node: *node,
+                    },
+                    client: *client,
+                    mode: *mode,
+                };
+                self.keep(&queued, Stage::Queued, number);
+            }
+            Some(Line::Stepped(Step::Cancel { node, client, name })) => {
+                self.take_cancel(*node, *client, name);
+            }
+            Some(Line::Marked(mark)) => self.take_mark(mark, number),
+            _ => {}
+        }
+    }
+
     /// Takes the mark in the line with this number. That a client releases shows in its mark, and so does that its
     /// request is withdrawn.
     pub fn take_mark(&mut self, mark: &Mark, number: u64) {
@@ -73,7 +107,7 @@ impl OpenRequests {
     }
 
     /// Keeps that the client of an entry is at a stage from this line on, unless memory runs out.
-    pub fn keep(&mut self, entry: &Entry, stage: Stage, since: u64) {
+    fn keep(&mut self, entry: &Entry, stage: Stage, since: u64) {
         let open = OpenRequest {
             entry: *entry,
             stage,
@@ -83,7 +117,7 @@ impl OpenRequests {
     }
 
     /// Takes that a client at a node cancels a name. If it is queued, it is so no more, and no mark says it.
-    pub fn take_cancel(&mut self, node: NodeId, client: u32, name: &Name) {
+    fn take_cancel(&mut self, node: NodeId, client: u32, name: &Name) {
         let key = (node, client, *name);
         if matches!(self.clients.get(&key), Some(request) if request.stage.is(Stage::Queued)) {
             self.clients.remove(&key);

@@ -1,7 +1,6 @@
 //! The lines before a wrong line, read once more for what they say of the wrong line.
-use crate::trace_notes::open_request::Stage;
 use crate::trace_notes::open_requests::OpenRequests;
-use ra_stamp::{Entry, Mark, Message, Stamp};
+use ra_stamp::{Entry, Mark, Message};
 use ra_text::cut;
 use ra_trace::Line;
 use ra_world::Step;
@@ -83,46 +82,20 @@ impl Replay {
         replay
     }
 
-    /// Notes what the line with this number says. A client that asks is queued until its request is made.
+    /// Notes what the line with this number says.
     fn take(&mut self, line: &[u8], number: u64) {
         let line = Line::parse(line);
+        self.open.take_line(&line, number);
         if let Some(Line::Stepped(_)) = line {
             self.step_at = number;
         }
         match &line {
             Some(Line::First { nodes, .. }) => self.nodes = Some(nodes.get()),
-            Some(
-                Line::Stepped(
-                    Step::Ask {
-                        node,
-                        client,
-                        name,
-                        mode,
-                    },
-                ),
-            ) => {
-                let queued = Entry {
-                    name: *name,
-                    stamp: Stamp {
-                        seq: 1,
-                        node: *node,
-                    },
-                    client: *client,
-                    mode: *mode,
-                };
-                self.open.keep(&queued, Stage::Queued, number);
-            }
-            Some(Line::Stepped(Step::Cancel { node, client, name })) => {
-                self.open.take_cancel(*node, *client, name);
-            }
             Some(Line::Stepped(Step::Deliver(message))) => self.take_message(
                 message, number, false,
             ),
             Some(Line::Stepped(Step::Lose(message))) => self.take_message(message, number, true),
-            Some(Line::Marked(mark)) => {
-                self.open.take_mark(mark, number);
-                self.take_mark(mark, number);
-            }
+            Some(Line::Marked(mark)) => self.take_mark(mark, number),
             _ => {}
         }
     }

@@ -1,16 +1,15 @@
 //! What is left at the end of a trace or of a mark log.
 use crate::note_parts::push_number_in;
 use crate::trace_notes::blockers::{ByLine, MAX_CLIENTS, push_blockers, want_text};
+use crate::trace_notes::line_counts::LineCounts;
 use crate::trace_notes::line_form::version_of;
 use crate::trace_notes::open_request::{Stage, push_entry};
 use crate::trace_notes::open_requests::{OpenRequests, Sought};
 use crate::trace_notes::replay::Replay;
-use crate::trace_notes::withdrawals::push_withdrawals;
-use memchr::memchr;
+use crate::trace_notes::withdrawals::WithdrawalScope;
 use ra_stamp::Memory;
 use ra_text::Note;
 use std::alloc::Global;
-use std::simd::prelude::*;
 
 /// How much is left at the end of a text.
 #[derive(Clone, Copy)]
@@ -22,88 +21,6 @@ struct LeftOver {
     waiting: u64,
     queued: u64,
     holding: u64,
-}
-
-/// How many lines came that change what is left.
-#[derive(Clone, Copy)]
-struct LineCounts {
-    asks: u64,
-    requests: u64,
-    enters: u64,
-    leaves: u64,
-    deliveries: u64,
-    losses: u64,
-    repeats: u64,
-    cancels: u64,
-    withdrawals: u64,
-}
-
-/// How many bytes are looked at together for line feeds.
-const BLOCK: usize = 64;
-
-impl LineCounts {
-    /// Counts the lines of a trace or of a mark log. The cost is linear in the text.
-    fn of(text: &[u8]) -> LineCounts {
-        let mut counts = LineCounts {
-            asks: 0,
-            requests: 0,
-            enters: 0,
-            leaves: 0,
-            deliveries: 0,
-            losses: 0,
-            repeats: 0,
-            cancels: 0,
-            withdrawals: 0,
-        };
-        counts.add(text);
-        let mut rest = text;
-        for _ in 0..text.len() / BLOCK {
-            let Some(after) = rest.get(BLOCK..) else {
-                break;
-            };
-            // Which of the first 64 bytes are line feeds, by a bit for each. A line follows each of them.
-            let mut feeds = u8x64::from_slice(rest)
-                .simd_eq(u8x64::splat(b'\n'))
-                .to_bitmask();
-            for _ in 0..BLOCK {
-                if feeds == 0 {
-                    break;
-                }
-                let place = feeds.trailing_zeros() as usize;
-                counts.add(rest.get(place.saturating_add(1)..).unwrap_or(b""));
-                feeds &= feeds.wrapping_sub(1);
-            }
-            rest = after;
-        }
-        for _ in 0..BLOCK {
-            let Some(place) = memchr(b'\n', rest) else {
-                break;
-            };
-            rest = rest.get(place.saturating_add(1)..).unwrap_or(b"");
-            counts.add(rest);
-        }
-        counts
-    }
-
-    /// Counts the first line of a text. Its first three letters tell which one it is, and each line has as many.
-    fn add(&mut self, text: &[u8]) {
-        let [first, second, third, ..] = text else {
-            return;
-        };
-        match (*first, *second, *third) {
-            (b'd', _, _) => self.deliveries = self.deliveries.saturating_add(1),
-            (b'r', _, b'q') => self.requests = self.requests.saturating_add(1),
-            (b'e', _, b't') => self.enters = self.enters.saturating_add(1),
-            (b'l', b'e', _) => self.leaves = self.leaves.saturating_add(1),
-            (b'a', _, _) => self.asks = self.asks.saturating_add(1),
-            (b'l', b'o', _) => self.losses = self.losses.saturating_add(1),
-            (b'r', _, b'p') => self.repeats = self.repeats.saturating_add(1),
-            (b'c', _, _) => self.cancels = self.cancels.saturating_add(1),
-            (b'w', _, _) => self.withdrawals = self.withdrawals.saturating_add(1),
-            // That a client releases shows in its mark. What is sent, and that a node forgets, leaves nothing.
-            _ => {}
-        }
-    }
 }
 
 /// Adds the first clients at a stage, and what is in the way of those that wait or are queued: `want` if no other
@@ -185,11 +102,11 @@ fn push_end(alloc: Global, note: &mut Note, text: &[u8], left: &LeftOver) {
 
 /// Returns a note on what is left at the end of a text, which is a mark log, or a trace in which this many messages
 /// were sent. The note counts the messages that are under way and lost, and the requests that wait, are queued or hold,
-/// and leaves out those of which there are none. At each stage it names the first four clients and since which lines
-/// they are there, and which clients those wait for that wait or are queued. If there is no memory for the clients, it
-/// only counts. Of a log without a mark it says that. At the end it names the first four requests that were withdrawn.
-/// Returns `None` if nothing is left and none was withdrawn. The cost is linear in the text. It does not allocate if it
-/// returns `None`.
+/// and leaves out each count that is zero. At each stage it names the first four clients and since which lines they are
+/// there, and which clients those wait for that wait or are queued. If there is no memory for the clients, it only
+/// counts. If a log has no mark, the note says so. At the end it names the first four requests that were withdrawn, and
+/// who went on because of that. Returns `None` if nothing is left and no request was withdrawn. The cost is linear in
+/// the text. It does not allocate if it returns `None`.
 ///
 /// # Errors
 ///
@@ -225,10 +142,10 @@ pub fn end_note(alloc: Global, text: &[u8], sent: u128) -> Result<Option<String>
         // A lost message is nothing left to do.
         push_end(alloc, &mut note, text, &left);
         if counts.withdrawals > 0 {
-            push_withdrawals(alloc, &mut note, "; ", text, counts.withdrawals);
+            WithdrawalScope::WHOLE.push(alloc, &mut note, "; ", text, counts.withdrawals);
         }
     } else if counts.withdrawals > 0 {
-        push_withdrawals(alloc, &mut note, "", text, counts.withdrawals);
+        WithdrawalScope::WHOLE.push(alloc, &mut note, "", text, counts.withdrawals);
     }
     note.finish()
 }

@@ -15,7 +15,8 @@ pub fn script_in(alloc: Global, note: &mut Note, text: &[u8]) -> Option<Script> 
     }
 }
 
-/// Returns what comes of a script by a policy, or `None` if that is refused. If memory ran out, the note records it.
+/// Returns the summary of a policy's run of a script, or `None` if it is refused. If memory ran out, the note records
+/// it.
 pub fn run_of(alloc: Global, note: &mut Note, script: &Script, policy: &Policy) -> Option<Summary> {
     match summarize(alloc, script, policy, MAX_TURNS) {
         Ok(summary) => Some(summary),
