@@ -57,9 +57,9 @@ handed_over p = taken_of p ++ p.kept
 abbrev pub fresh_progress : ℕ → ProgressState
 fresh_progress node = record { node = node; settled = []; waiting = []; kept = [] }
 
--- The run so far, as a world that made its steps; and how far each node's events are in it. Of the frames that were noted
--- as lost: those whose loss is still to be put into the run, and those whose loss is in it, in its order. And what did not
--- fit, if anything did not.
+-- The run so far, as a world that made its steps; and how far each node's events are in it. Of the frames that were
+-- noted as lost: those whose loss is still to be put into the run, and those whose loss is in it, in its order. And
+-- what did not fit, if anything did not.
 pub record AuditState : Type 0 where
   pub world : WorldState
   pub nodes : List ProgressState
@@ -110,21 +110,22 @@ HasLost moves lost = lost_by moves ≡ map (λ frame. frame.message) lost
 
 -- ---- Which frames were sent in the run
 
--- The frames that a node sent, in order, by what happened at it and by its events, which are the same in the same order: each
--- message that an event sent, with the clock of the event.
+-- The frames that a node sent, in order, by what happened at it and by its events, which are the same in the same
+-- order: each message that an event sent, with the clock of the event.
 abbrev pub frames_sent : List Happening → List BookEvent → List Frame
 frames_sent [] events = []
 frames_sent (h ∷ happened) [] = []
 frames_sent (h ∷ happened) (event ∷ events) = frames_at event.clock h.sends ++ frames_sent happened events
 
--- The sender of the message sent the frame in these moves: an event of it that is in the run sent the message, and has the
--- frame's clock.
+-- The sender of the message sent the frame in these moves: an event of it that is in the run sent the message, and has
+-- the frame's clock.
 abbrev pub WasSentIn : List ProgressState → List Move → Frame → Type 0
 WasSentIn nodes moves frame =
-    Any (λ p. (p.node ≡ from_of frame.message) × Contains (frames_sent (happened_at p.node moves) p.settled) frame) nodes
+    Any (λ p. (p.node ≡ from_of frame.message) × Contains (frames_sent (happened_at p.node moves) p.settled) frame)
+    nodes
 
--- Each frame that came in the run was sent in it, with the clock of the event that sent it. So was each of these frames,
--- whose losses are in the run.
+-- Each frame that came in the run was sent in it, with the clock of the event that sent it. So was each of these
+-- frames, whose losses are in the run.
 pub record AllWereSent (nodes : List ProgressState) (moves : List Move) (lost : List Frame) : Type 0 where
   pub came : All (λ p. All (WasSentIn nodes moves) (received_among p.settled)) nodes
   pub losses : All (WasSentIn nodes moves) lost
@@ -152,15 +153,15 @@ IsReady nodes p = (event : BookEvent) × (slice_get p.waiting 0 ≡ Some event) 
 abbrev pub NoneIsReady : List ProgressState → Type 0
 NoneIsReady nodes = All (λ p. IsReady nodes p → ⊥) nodes
 
--- An event of this node fits after the run: the run goes on with it, and a frame that came was sent in the run, by the event
--- of its sender that has its clock.
+-- An event of this node fits after the run: the run goes on with it, and a frame that came was sent in the run, by the
+-- event of its sender that has its clock.
 pub record FitsRun (world : WorldState) (nodes : List ProgressState) (node : ℕ) (kind : BookKind) : Type 0 where
   pub goes_on : GoesOn world.count world.start world.moves (step_at node kind)
   pub sent : All (WasSentIn nodes world.moves) (frames_in kind)
 
--- The event is the next one of its node, and could be put, but it does not fit after the run. If it is a frame, all that its
--- sender sent up to the frame's clock is in the run, and the message is not under way, or was not sent with this clock: the
--- frame was never sent, or its message came or was lost before.
+-- The event is the next one of its node, and could be put, but it does not fit after the run. If it is a frame, all
+-- that its sender sent up to the frame's clock is in the run, and the message is not under way, or was not sent with
+-- this clock: the frame was never sent, or its message came or was lost before.
 pub record IsMisfit (world : WorldState) (nodes : List ProgressState) (fault : AuditFault) : Type 0 where
   pub at_node : Any (λ p. (p.node ≡ fault.node) × (slice_get p.waiting 0 ≡ Some fault.event)) nodes
   pub due : IsDue nodes fault.event.kind
@@ -178,14 +179,16 @@ abbrev pub NoneIsReached : List ProgressState → List Frame → Type 0
 NoneIsReached nodes losing = All (λ frame. IsReached nodes frame → ⊥) losing
 
 -- The loss of the frame is still to be put, and all that its sender sent up to the frame's clock is in the run. But its
--- message is not under way, or was not sent with this clock: it came, its loss is in the run already, or the frame was never
--- sent.
-pub record IsNotLost (world : WorldState) (nodes : List ProgressState) (losing : List Frame) (frame : Frame) : Type 0 where
+-- message is not under way, or was not sent with this clock: it came, its loss is in the run already, or the frame was
+-- never sent.
+pub record IsNotLost (world : WorldState) (nodes : List ProgressState) (losing : List Frame)
+    (frame : Frame) : Type 0 where
   pub is_losing : Contains losing frame
   pub reached : IsReached nodes frame
   pub misfit : IsUnderWay world.moves frame.message → WasSentIn nodes world.moves frame → ⊥
 
--- Something is left to put into the run: an event is due that fits, or no event can be put and some loss is still to be put.
+-- Something is left to put into the run: an event is due that fits, or no event can be put and some loss is still to be
+-- put.
 abbrev pub CanBePut : AuditState → Type 0
 CanBePut auditor = CanGoOn auditor.world auditor.nodes ⊎ (NoneIsReady auditor.nodes × (auditor.losing ≢ []))
 
@@ -197,8 +200,8 @@ pub record IsAuditorOf (cluster : ClusterState) (auditor : AuditState) : Type 0 
   pub count : auditor.world.count ≡ cluster.nodes
   pub start : auditor.world.start ≡ cluster.start
 
--- The run went on by some moves, whose marks were told in their order. Of each node the same events are taken and kept as
--- before.
+-- The run went on by some moves, whose marks were told in their order. Of each node the same events are taken and kept
+-- as before.
 pub record Advances (old : WorldState) (nodes : List ProgressState) (told : List Mark) (new : WorldState)
     (nodes' : List ProgressState) (told' : List Mark) : Type 0 where
   pub audited : IsAudited new nodes'
@@ -222,8 +225,9 @@ TakenGoOn [] (new ∷ news) = ⊥
 TakenGoOn (old ∷ olds) [] = ⊥
 TakenGoOn (old ∷ olds) (new ∷ news) = GoesOnFrom old new × TakenGoOn olds news
 
--- The node's site handed over all that a book of the node had left: further events and, as lost, these frames. What was taken from the
--- book before ends at the clock of the last event that was handed over before. Only the clock is compared.
+-- The node's site handed over all that a book of the node had left: further events and, as lost, these frames. What was
+-- taken from the book before ends at the clock of the last event that was handed over before. Only the clock is
+-- compared.
 abbrev pub HandsOver : ProgressState → ProgressState → List Frame → Type 0
 HandsOver old new lost = (more : List BookEvent) × (handed_over new ≡ handed_over old ++ more)
     × IsLeftOfBook old.node (clock_of (handed_over old)) more lost
@@ -232,8 +236,8 @@ HandsOver old new lost = (more : List BookEvent) × (handed_over new ≡ handed_
 abbrev pub HandsNothing : ProgressState → ProgressState → Type 0
 HandsNothing old new = handed_over new ≡ handed_over old
 
--- The sites of the first nodes handed over (`HandsOver`), as many as there are lists: of each, in the order of the nodes, its list
--- has the frames that it handed over as lost. Those of the nodes after these handed over nothing.
+-- The sites of the first nodes handed over (`HandsOver`), as many as there are lists: of each, in the order of the
+-- nodes, its list has the frames that it handed over as lost. Those of the nodes after these handed over nothing.
 abbrev pub AllHandOver : List ProgressState → List ProgressState → List (List Frame) → Type 0
 AllHandOver [] [] [] = Unit {0}
 AllHandOver [] [] (lost ∷ handed) = ⊥
@@ -246,8 +250,8 @@ AllHandOver (old ∷ olds) (new ∷ news) (lost ∷ handed) = HandsOver old new 
 abbrev pub NoneIsKept : List ProgressState → Type 0
 NoneIsKept nodes = All (λ p. p.kept ≡ []) nodes
 
--- Further events were taken of nodes, and the frames that their sites handed over as lost are still to be lost, after the others.
--- Nothing else has changed.
+-- Further events were taken of nodes, and the frames that their sites handed over as lost are still to be lost, after
+-- the others. Nothing else has changed.
 pub record TakesMore (old new : AuditState) : Type 0 where
   pub taken : TakenGoOn old.nodes new.nodes
   pub handed : List (List Frame)
@@ -261,17 +265,18 @@ pub record TakesByAnswer {E : Type 0} (old new : AuditState) (answer : Result (U
   pub more : TakesMore old new
   pub asked : OnOk answer (length more.handed ≡ length new.nodes)
 
--- Some of the losses that were still to be put are in the run now, or none more. The run has come to the frame of each by the end of
--- the call. The others are still to be put, in any order. So no frame is forgotten, and none is lost more often than noted.
+-- Some of the losses that were still to be put are in the run now, or none more. The run has come to the frame of each
+-- by the end of the call. The others are still to be put, in any order. So no frame is forgotten, and none is lost more
+-- often than noted.
 pub record PutsLosses (nodes : List ProgressState) (losing lost losing' lost' : List Frame) : Type 0 where
   pub put : List Frame
   pub lost_are : lost' ≡ lost ++ put
   pub same : IsPermutation losing (put ++ losing')
   pub reached : All (IsReached nodes) put
 
--- A round of the audit of a cluster: further events were taken of its nodes. The frames that were noted as lost are those that
--- the nodes' sites handed over. The run went on by some moves, whose marks were told in their order, and by some of the losses
--- that were still to be put, those of these frames among them.
+-- A round of the audit of a cluster: further events were taken of its nodes. The frames that were noted as lost are
+-- those that the nodes' sites handed over. The run went on by some moves, whose marks were told in their order, and by
+-- some of the losses that were still to be put, those of these frames among them.
 pub record Audits (old : AuditState) (told : List Mark) (new : AuditState) (told' : List Mark) : Type 0 where
   pub audited : IsAudited new.world new.nodes
   pub count : new.world.count ≡ old.world.count
@@ -287,14 +292,15 @@ pub record Audits (old : AuditState) (told : List Mark) (new : AuditState) (told
   pub sent : AllWereSent new.nodes new.world.moves new.lost
 
 -- The same; and if the round is Ok, each node's site handed over (`HandsOver`).
-pub record AuditsByAnswer {E : Type 0} (old : AuditState) (told : List Mark) (new : AuditState) (told' : List Mark) (answer : Result (Unit {0}) E) : Type 0 where
+pub record AuditsByAnswer {E : Type 0} (old : AuditState) (told : List Mark) (new : AuditState) (told' : List Mark)
+    (answer : Result (Unit {0}) E) : Type 0 where
   pub audits : Audits old told new told'
   pub asked : OnOk answer (length audits.handed ≡ length new.nodes)
 
 -- ---- What holds of the run
 
--- What the main theorem says of a run of n nodes, and that it is fair. A table is any table to which the marks of the run
--- lead.
+-- What the main theorem says of a run of n nodes, and that it is fair. A table is any table to which the marks of the
+-- run lead.
 pub record RunTheorem (n : ℕ) (moves : List Move) : Type 0 where
   -- the marks are a run of the lock table
   pub table_run : (table : LockTable) × TableRun (marks_of moves) table
@@ -307,7 +313,8 @@ pub record RunTheorem (n : ℕ) (moves : List Move) : Type 0 where
       → All (IsBlocked table) table.waiting
   pub none_may_enter : (table : LockTable) → TableRun (marks_of moves) table → IsQuiet moves
       → All (λ e. MayEnter table e → ⊥) table.waiting
-  -- and if none waits and nothing was repeated or withdrawn, exactly two messages were sent for each request and other node
+  -- and if none waits and nothing was repeated or withdrawn, exactly two messages were sent for each request and other
+  -- node
   pub count : (table : LockTable) → TableRun (marks_of moves) table → IsQuiet moves → repeated_by moves ≡ []
       → withdrawn_in (marks_of moves) ≡ 0 → table.waiting ≡ [] → MeetsMessageCount n moves
   -- each other node overtakes a waiting request at most once after its REQUEST has arrived there
@@ -342,10 +349,10 @@ KeptAreNext p = AreNextAt p.node (clock_of (taken_of p)) p.kept
 abbrev pub MayHandOver : ProgressState → ProgressState → List Frame → Type 0
 MayHandOver p q handed = (HandsNothing p q × (handed ≡ [])) ⊎ HandsOver p q handed
 
--- What is known of a node after its site handed over what has happened and these frames, which were lost, or nothing. It goes on
--- from before, with the same events in the run. If the answer is Ok, the site handed over (`HandsOver`), and nothing is kept. If
--- it is OutOfTurn, nothing is kept either, and nothing was handed over. It is NotNext exactly if what is kept can't be the node's next
--- events. Memory is the only other error, after which what is kept can be.
+-- What is known of a node after its site handed over what has happened and these frames, which were lost, or nothing.
+-- It goes on from before, with the same events in the run. If the answer is Ok, the site handed over (`HandsOver`), and
+-- nothing is kept. If it is OutOfTurn, nothing is kept either, and nothing was handed over. It is NotNext exactly if
+-- what is kept can't be the node's next events. Memory is the only other error, after which what is kept can be.
 pub record TakesOver (p q : ProgressState) (handed : List Frame) (answer : Result (Unit {0}) TakeError) : Type 0 where
   pub goes_on : GoesOnFrom p q
   pub hands : MayHandOver p q handed
@@ -358,16 +365,17 @@ pub record TakesOver (p q : ProgressState) (handed : List Frame) (answer : Resul
   pub memory : IsErrOf answer Memory → KeptAreNext q
 
 -- How an auditor takes what the site of a node hands over. If there is no such node, it says so, and nothing changes.
--- Otherwise the node goes on from before, and the other nodes are as before. The frames that were handed over as lost are
--- still to be lost, after the others, whatever the answer.
-abbrev pub TakesHanded : List ProgressState → List Frame → ℕ → Result (Unit {0}) TakeError → List ProgressState → List Frame → Type 0
+-- Otherwise the node goes on from before, and the other nodes are as before. The frames that were handed over as lost
+-- are still to be lost, after the others, whatever the answer.
+abbrev pub TakesHanded : List ProgressState → List Frame → ℕ → Result (Unit {0}) TakeError → List ProgressState
+    → List Frame → Type 0
 TakesHanded nodes losing node answer nodes' losing' =
     ((length nodes < node) × IsErrOf answer NoNode × (nodes' ≡ nodes) × (losing' ≡ losing))
     ⊎ AtNumber nodes node (λ p. (q : ProgressState) × (handed : List Frame) × TakesOver p q handed answer
     × (nodes' ≡ slice_set nodes (node - 1) q) × (losing' ≡ losing ++ handed))
 
--- Further events were taken of the node with this number, and the frames that its site handed over as lost are still to be lost,
--- after the others. Nothing else has changed.
+-- Further events were taken of the node with this number, and the frames that its site handed over as lost are still to
+-- be lost, after the others. Nothing else has changed.
 pub record TakesMoreAt (old : AuditState) (number : ℕ) (new : AuditState) : Type 0 where
   pub taken : TakenGoOn old.nodes new.nodes
   pub handed : List Frame
@@ -377,14 +385,15 @@ pub record TakesMoreAt (old : AuditState) (number : ℕ) (new : AuditState) : Ty
   pub rest : new ≡ record old { nodes = new.nodes; losing = new.losing }
   pub audited : IsAudited new.world new.nodes
 
--- Nothing is kept of the node any more, and the other nodes are as before. The node's site handed over further events, and frames
--- that are still to be lost, after the others (`HandsOver`).
+-- Nothing is kept of the node any more, and the other nodes are as before. The node's site handed over further events,
+-- and frames that are still to be lost, after the others (`HandsOver`).
 abbrev pub TakesAllAt : List ProgressState → List Frame → ℕ → List ProgressState → List Frame → Type 0
 TakesAllAt nodes losing node nodes' losing' = AtNumber nodes node (λ p. (q : ProgressState) × (q.kept ≡ [])
-    × (nodes' ≡ slice_set nodes (node - 1) q) × (handed : List Frame) × HandsOver p q handed × (losing' ≡ losing ++ handed))
+    × (nodes' ≡ slice_set nodes (node - 1) q) × (handed : List Frame) × HandsOver p q handed
+    × (losing' ≡ losing ++ handed))
 
--- Why the events of a node were not taken, by what is known of it now. OutOfTurn: nothing is kept. NotNext: what is kept can't
--- be its next events. Memory: what is kept can be.
+-- Why the events of a node were not taken, by what is known of it now. OutOfTurn: nothing is kept. NotNext: what is
+-- kept can't be its next events. Memory: what is kept can be.
 abbrev pub IsCauseAt : TakeError → ProgressState → Type 0
 IsCauseAt NoNode p = ⊥
 IsCauseAt OutOfTurn p = p.kept ≡ []
@@ -415,8 +424,8 @@ pub record IsNeverSent (nodes : List ProgressState) (fault : AuditFault) : Type 
 abbrev pub IsLeastLeft : List ProgressState → AuditFault → Type 0
 IsLeastLeft nodes fault = All (λ p. All (λ event. fault.event.clock ≤ event.clock) p.waiting) nodes
 
--- The frame is still to be lost, and the events of its sender that are in the run end before the frame's clock. If they are
--- all events of the sender, the frame was never sent.
+-- The frame is still to be lost, and the events of its sender that are in the run end before the frame's clock. If they
+-- are all events of the sender, the frame was never sent.
 pub record IsAhead (nodes : List ProgressState) (losing : List Frame) (frame : Frame) : Type 0 where
   pub is_losing : Contains losing frame
   pub ahead : All (λ p. p.node ≡ from_of frame.message → clock_of p.settled < frame.clock) nodes
@@ -435,7 +444,8 @@ clock_at clocks node = slice_index_or clocks (node - 1) 0
 -- clock, and one waits that is not after it; or they do not, and the frame is new, so that the event may yet be taken.
 abbrev pub MayComeFrom : ℕ → Type 0 → ProgressState → Type 0
 MayComeFrom clock IsNew s =
-    ((clock ≤ clock_of (taken_of s)) × (first : BookEvent) × (slice_get s.waiting 0 ≡ Some first) × (first.clock ≤ clock))
+    ((clock ≤ clock_of (taken_of s)) × (first : BookEvent) × (slice_get s.waiting 0 ≡ Some first)
+    × (first.clock ≤ clock))
     ⊎ ((clock_of (taken_of s) < clock) × IsNew)
 
 -- of a frame that came, this holds of its sender
@@ -446,22 +456,23 @@ MayCome nodes IsNew (Cancel client name) = Unit {0}
 MayCome nodes IsNew Forget = Unit {0}
 MayCome nodes IsNew (Receive frame) = All (λ s. s.node ≡ from_of frame.message → MayComeFrom frame.clock IsNew s) nodes
 
--- The node's next event, if one waits, may still be put into the run. A frame is new if it was taken after the nodes had
--- these clocks.
+-- The node's next event, if one waits, may still be put into the run. A frame is new if it was taken after the nodes
+-- had these clocks.
 abbrev pub MayBePut : List ℕ → List ProgressState → ProgressState → Type 0
 MayBePut clocks nodes p = (event : BookEvent) → slice_get p.waiting 0 ≡ Some event
     → MayCome nodes (clock_at clocks p.node < event.clock) event.kind
 
--- The next event of the node is a frame that came, and no event of its sender has its clock: none that was taken has it,
--- and they go beyond it, or the frame was taken by the time at which the nodes had these clocks. In the second case it is
--- so if all events of the sender up to that time were taken since.
+-- The next event of the node is a frame that came, and no event of its sender has its clock: none that was taken has
+-- it, and they go beyond it, or the frame was taken by the time at which the nodes had these clocks. In the second case
+-- it is so if all events of the sender up to that time were taken since.
 pub record IsUnsent (clocks : List ℕ) (nodes : List ProgressState) (fault : AuditFault) : Type 0 where
   pub never_sent : IsNeverSent nodes fault
   pub sure : All (λ s. s.node ≡ from_of never_sent.frame.message
       → (never_sent.frame.clock < clock_of (taken_of s)) ⊎ (fault.event.clock ≤ clock_at clocks fault.node)) nodes
 
 -- What a round of the audit of a cluster answers, and what it makes of the auditor and of the marks that were told.
-pub record AnswersRound (cluster : ClusterState) (old : AuditState) (told : List Mark) (new : AuditState) (told' : List Mark)
+pub record AnswersRound (cluster : ClusterState) (old : AuditState) (told : List Mark) (new : AuditState)
+    (told' : List Mark)
     (answer : Result (Unit {0}) RoundError) : Type 0 where
   pub audits : Audits old told new told'
   pub theorem : RunTheorem new.world.count new.world.moves
@@ -476,12 +487,14 @@ pub record AnswersRound (cluster : ClusterState) (old : AuditState) (told : List
   pub not_audited : IsErrOf answer NotAudited ↔ (cluster.audited ≡ false)
   pub other_cluster : IsErrOf answer OtherCluster ↔ ((cluster.audited ≡ true) × (IsAuditorOf cluster old → ⊥))
   pub unchanged : (IsAuditorOf cluster old → ⊥) → new ≡ old
-  pub known : (fault : AuditFault) → IsAuditorOf cluster old → old.fault ≡ Some fault → IsErrOf answer (Fault fault) × (new ≡ old)
+  pub known : (fault : AuditFault) → IsAuditorOf cluster old → old.fault ≡ Some fault
+      → IsErrOf answer (Fault fault) × (new ≡ old)
   pub found : (fault : AuditFault) → old.fault ≡ None → IsErrOf answer (Fault fault)
       → IsMisfit new.world new.nodes fault ⊎ IsUnsent (clocks_taken old.nodes) new.nodes fault
   -- so after a round of its cluster, an auditor has a fault exactly if the round answered it
   pub fault : (fault : AuditFault) → IsAuditorOf cluster old → IsErrOf answer (Fault fault) ↔ (new.fault ≡ Some fault)
-  pub not_lost : (frame : Frame) → IsErrOf answer (NotLost frame) → NoneIsReady new.nodes × IsNotLost new.world new.nodes new.losing frame
+  pub not_lost : (frame : Frame) → IsErrOf answer (NotLost frame)
+      → NoneIsReady new.nodes × IsNotLost new.world new.nodes new.losing frame
   -- nothing was done, or something is left to put
   pub memory : IsErrOf answer round.Memory → ((new ≡ old) × (told' ≡ told)) ⊎ CanBePut new
   pub not_taken : (node : ℕ) (cause : TakeError) → IsErrOf answer (NotTaken node cause)
@@ -516,8 +529,8 @@ pub record AreAllIn (nodes : List ProgressState) (books : List BookState) : Type
   pub count : length books ≡ length nodes
   pub all : (place : ℕ) → IsAllInAt nodes books place
 
--- At some place are the node with this number and a book that is not all in the run. All of the history of each book before
--- it is.
+-- At some place are the node with this number and a book that is not all in the run. All of the history of each book
+-- before it is.
 pub record IsFirstNotAllIn (nodes : List ProgressState) (books : List BookState) (node : ℕ) : Type 0 where
   pub place : ℕ
   pub p : ProgressState
@@ -545,8 +558,8 @@ pub record HasAllIn (auditor : AuditState) : Type 0 where
   pub none_waits : NoneWaits auditor.nodes
   pub none_losing : auditor.losing ≡ []
 
--- An audit ended, and all that the books of its cluster say is in the run, by the clock. None of the frames that they still have is
--- flagged lost.
+-- An audit ended, and all that the books of its cluster say is in the run, by the clock. None of the frames that they
+-- still have is flagged lost.
 pub record ClosesAudit (auditor : AuditState) (books : List BookState) : Type 0 where
   pub all_in : HasAllIn auditor
   pub books_in : AreAllIn auditor.nodes books
@@ -555,11 +568,13 @@ pub record ClosesAudit (auditor : AuditState) (books : List BookState) : Type 0 
 
 -- Why a cluster was not closed so, with the cluster, if it was not closed, and otherwise its books.
 abbrev pub RefusesClose : ClusterState → AuditState → CloseError → Option ClusterState → List BookState → Type 0
-RefusesClose cluster auditor (NotFinished cause) kept books = (kept ≡ Some cluster) × (books ≡ []) × RefusesFinish auditor cause
+RefusesClose cluster auditor (NotFinished cause) kept books =
+    (kept ≡ Some cluster) × (books ≡ []) × RefusesFinish auditor cause
 RefusesClose cluster auditor (Behind node) kept books =
     (kept ≡ None) × HasAllIn auditor × All HasHistory books × IsFirstNotAllIn auditor.nodes books node
 RefusesClose cluster auditor (StillLost frame) kept books =
-    (kept ≡ None) × HasAllIn auditor × All HasHistory books × AreAllIn auditor.nodes books × (slice_get (still_lost books) 0 ≡ Some frame)
+    (kept ≡ None) × HasAllIn auditor × All HasHistory books × AreAllIn auditor.nodes books
+    × (slice_get (still_lost books) 0 ≡ Some frame)
 
 -- what the last round answered, by what the close of a cluster did
 abbrev pub round_of : CloseError → Result (Unit {0}) RoundError

@@ -1,5 +1,5 @@
--- How an auditor keeps what it knows of a node, of frames that were lost, and of messages under way. No public contract speaks
--- of it.
+-- How an auditor keeps what it knows of a node, of frames that were lost, and of messages under way. No public contract
+-- speaks of it.
 use Rattle.std.specs.Prelude.{◌≡◌, ◌≢◌, ◌⊎◌, ◌↔◌, ℕ, ◌+◌, ◌-◌, ◌*◌, ◌<◌, ◌≤◌, ◌∷◌, ◌++◌, [], List, Option, Some, None, All, AllPairs, Contains, length, take, drop, slice_get, slice_index_or}
 use Rattle.std.specs.List.{Any}
 use Rattle.ra_audit.specs.declared.auditor.node_progress.NodeProgress.TheInside.{Inside}
@@ -36,7 +36,8 @@ pub record IsKeptProgress (p : Inside) : Type 0 where
 -- the event that waits first at its node, with the least clock of those that wait first at these nodes
 pub record IsLeastWaiting (nodes : List ProgressState) (fault : AuditFault) : Type 0 where
   pub at_node : Any (λ p. (p.node ≡ fault.node) × (slice_get p.waiting 0 ≡ Some fault.event)) nodes
-  pub least : All (λ p. (event : BookEvent) → slice_get p.waiting 0 ≡ Some event → fault.event.clock ≤ event.clock) nodes
+  pub least : All (λ p. (event : BookEvent) → slice_get p.waiting 0 ≡ Some event
+      → fault.event.clock ≤ event.clock) nodes
 
 -- the same, if one waits
 abbrev pub IsLeastOf : List ProgressState → Option AuditFault → Type 0
@@ -58,8 +59,8 @@ IsOfNone nodes NoneComes kind = (frame : Frame) × (kind ≡ Receive frame)
 
 -- ---- Losses
 
--- Of the frames that were noted as lost: those whose loss is still to be put into the run, the last ones of them that are not
--- among those in turn yet, and those whose loss is in the run.
+-- Of the frames that were noted as lost: those whose loss is still to be put into the run, the last ones of them that
+-- are not among those in turn yet, and those whose loss is in the run.
 pub record LossState : Type 0 where
   pub losing : List Frame
   pub noted : List Frame
@@ -100,9 +101,9 @@ pub record AreLookedAt (nodes : List ProgressState) (left : ℕ) (losing : List 
 
 -- ---- Frames under way
 
--- The clocks of the events that sent the messages under way: those that are noted, each with its message; and the messages that
--- are not noted yet, which one event sent at this clock. A message between two of this many nodes is noted in its slot, or among
--- the others.
+-- The clocks of the events that sent the messages under way: those that are noted, each with its message; and the
+-- messages that are not noted yet, which one event sent at this clock. A message between two of this many nodes is
+-- noted in its slot, or among the others.
 pub record FlightState : Type 0 where
   pub nodes : ℕ
   pub slots : List (Option Frame)
@@ -121,7 +122,8 @@ slot_of nodes message = 2 * ((from_of message - 1) * nodes + (to_of message - 1)
 
 -- the slot of the message has it, with this clock
 abbrev pub IsInSlot : ℕ → List (Option Frame) → Message → ℕ → Type 0
-IsInSlot nodes slots message clock = slice_index_or slots (slot_of nodes message) None ≡ Some (record { clock = clock; message = message })
+IsInSlot nodes slots message clock =
+    slice_index_or slots (slot_of nodes message) None ≡ Some (record { clock = clock; message = message })
 
 -- the clock that is noted for the message among the others
 abbrev pub clock_among : List (Message × ℕ) → Message → Option ℕ
@@ -129,18 +131,21 @@ clock_among others message = lookup (eq-value.it message) others
 
 -- no message is noted twice
 abbrev pub AreApart : ℕ → List (Option Frame) → List (Message × ℕ) → Type 0
-AreApart nodes slots others = (message : Message) (clock other : ℕ) → IsInSlot nodes slots message clock → clock_among others message ≡ Some other → ⊥
+AreApart nodes slots others = (message : Message) (clock other : ℕ) → IsInSlot nodes slots message clock
+    → clock_among others message ≡ Some other → ⊥
 
 -- this clock is noted for the message
 abbrev pub IsNotedIn : ℕ → List (Option Frame) → List (Message × ℕ) → Message → ℕ → Type 0
-IsNotedIn nodes slots others message clock = IsInSlot nodes slots message clock ⊎ (clock_among others message ≡ Some clock)
+IsNotedIn nodes slots others message clock =
+    IsInSlot nodes slots message clock ⊎ (clock_among others message ≡ Some clock)
 
 abbrev pub IsNoted : FlightState → Message → ℕ → Type 0
 IsNoted flights = IsNotedIn flights.nodes flights.slots flights.others
 
 -- the message is under way, and an event with this clock sent it
 abbrev pub HasClock : FlightState → Message → ℕ → Type 0
-HasClock flights message clock = IsNoted flights message clock ⊎ (Contains flights.last message × (clock ≡ flights.clock))
+HasClock flights message clock =
+    IsNoted flights message clock ⊎ (Contains flights.last message × (clock ≡ flights.clock))
 
 -- the message is under way
 abbrev pub IsFlying : FlightState → Message → Type 0
@@ -162,7 +167,8 @@ abbrev pub AreNoted : FlightState → List Frame → Type 0
 AreNoted flights frames = All (λ frame. IsNoted flights frame.message frame.clock) frames
 
 -- these messages are noted no longer, the others are as before, and an event with this clock sent these messages
-pub record FliesAfter (old : FlightState) (taken : List Message) (clock : ℕ) (sends : List Message) (new : FlightState) : Type 0 where
+pub record FliesAfter (old : FlightState) (taken : List Message) (clock : ℕ) (sends : List Message)
+    (new : FlightState) : Type 0 where
   pub only : (message : Message) (clock : ℕ) → IsNoted new message clock
       → IsNoted old message clock × (Contains taken message → ⊥)
   pub others : (message : Message) (clock : ℕ) → (Contains taken message → ⊥) → IsNoted old message clock
@@ -175,15 +181,16 @@ abbrev pub IsIn : (Message → ℕ → Type 0) → Message → Type 0
 IsIn noted message = (clock : ℕ) × noted message clock
 
 -- some of these messages have this clock now, and what had a clock has one
-pub record NotesSome (old : Message → ℕ → Type 0) (messages : List Message) (clock : ℕ) (new : Message → ℕ → Type 0) : Type 0 where
+pub record NotesSome (old : Message → ℕ → Type 0) (messages : List Message) (clock : ℕ)
+    (new : Message → ℕ → Type 0) : Type 0 where
   pub had : (message : Message) (has : ℕ) → new message has
       → old message has ⊎ (Contains messages message × (has ≡ clock))
   pub all : (message : Message) → IsIn old message → IsIn new message
 
 -- ---- What is known of the run
 
--- What is known of the messages of runs without repeats: all are different, what happened at a node sent messages of that node,
--- and after one more move a message is under way if it was before and was not taken, or if the move sent it.
+-- What is known of the messages of runs without repeats: all are different, what happened at a node sent messages of
+-- that node, and after one more move a message is under way if it was before and was not taken, or if the move sent it.
 pub record MessagesAreKnown : Type 0 where
   pub different : (n start : ℕ) (moves : List Move) → IsNodeNumber n → IsRun n start moves → repeated_by moves ≡ []
       → AllPairs (λ a b. a ≢ b) (sent_by moves)
@@ -194,16 +201,18 @@ pub record MessagesAreKnown : Type 0 where
       → IsUnderWay (moves ++ move ∷ []) message
       ↔ ((IsUnderWay moves message × (Contains (taken_in move.step) message → ⊥)) ⊎ Contains move.sends message)
 
--- The frames that came in the run were sent in it. The messages under way are known, each with a clock at which it was sent.
+-- The frames that came in the run were sent in it. The messages under way are known, each with a clock at which it was
+-- sent.
 pub record IsTracked (nodes : List ProgressState) (moves : List Move) (flights : FlightState) : Type 0 where
   pub came : All (λ p. All (WasSentIn nodes moves) (received_among p.settled)) nodes
   pub sent : (message : Message) (clock : ℕ) → HasClock flights message clock
       → WasSentIn nodes moves (record { clock = clock; message = message })
   pub under_way : (message : Message) → IsUnderWay moves message ↔ IsFlying flights message
 
--- The run of these nodes is audited, with the losses that are in it, and what is sent in it is tracked. Each frame whose loss is in it
--- was sent in it.
-pub record HasInRun (world : WorldState) (nodes : List ProgressState) (flights : FlightState) (losses : LossState) : Type 0 where
+-- The run of these nodes is audited, with the losses that are in it, and what is sent in it is tracked. Each frame
+-- whose loss is in it was sent in it.
+pub record HasInRun (world : WorldState) (nodes : List ProgressState) (flights : FlightState)
+    (losses : LossState) : Type 0 where
   pub audited : IsAudited world nodes
   pub lost : HasLost world.moves losses.lost
   pub tracked : IsTracked nodes world.moves flights

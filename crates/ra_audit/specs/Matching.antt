@@ -11,8 +11,8 @@ pub use Rattle.ra_book.specs.Keys.{entered_in}
 abbrev pub entries_of : List Grant → List Entry
 entries_of grants = map (λ grant. grant.entry) grants
 
--- Grants are matched with the Entered marks of their requests, one for one. These requests of grants are left over, and these of
--- marks.
+-- Grants are matched with the Entered marks of their requests, one for one. These requests of grants are left over, and
+-- these of marks.
 pub record AreMatched (marks : List Mark) (grants : List Grant) (waiting others : List Entry) : Type 0 where
   pub matched : List Entry
   pub grants_are : IsPermutation (entries_of grants) (matched ++ waiting)
@@ -22,8 +22,8 @@ pub record AreMatched (marks : List Mark) (grants : List Grant) (waiting others 
 abbrev pub AreAllMatched : List Mark → List Grant → Type 0
 AreAllMatched marks grants = (others : List Entry) × AreMatched marks grants [] others
 
--- Once grants and marks were matched, a grant of this request is left over, and no mark of it. So there are fewer Entered marks of
--- the request than grants.
+-- Once grants and marks were matched, a grant of this request is left over, and no mark of it. So there are fewer
+-- Entered marks of the request than grants.
 pub record IsUnmatched (marks : List Mark) (grants : List Grant) (entry : Entry) : Type 0 where
   pub waiting : List Entry
   pub others : List Entry
@@ -31,8 +31,9 @@ pub record IsUnmatched (marks : List Mark) (grants : List Grant) (entry : Entry)
   pub is_waiting : Contains waiting entry
   pub no_mark : Contains others entry → ⊥
 
--- What a matcher knows: the marks that it was told, the grants that it was given, the requests of those of them that wait for a
--- mark, the requests of Entered marks that wait for a grant, and whether it has forgotten some of these marks.
+-- What a matcher knows: the marks that it was told, the grants that it was given, the requests of those of them that
+-- wait for a mark, the requests of Entered marks that wait for a grant, and whether it has forgotten some of these
+-- marks.
 pub record MatcherState : Type 0 where
   pub told : List Mark
   pub grants : List Grant
@@ -53,16 +54,16 @@ pub record IsMatcher (state : MatcherState) : Type 0 where
 
 -- ---- What becomes of a grant and of a mark
 
--- A grant was given. If marks of its request are kept, it is matched with one, which is kept no longer; which one does not matter, since
--- they are equal. Otherwise its request waits, after the others. Nothing else has changed.
+-- A grant was given. If marks of its request are kept, it is matched with one, which is kept no longer; which one does
+-- not matter, since they are equal. Otherwise its request waits, after the others. Nothing else has changed.
 pub record TakesGrant (old : MatcherState) (grant : Grant) (new : MatcherState) : Type 0 where
   pub matched : Contains old.left grant.entry → IsPermutation old.left (grant.entry ∷ new.left)
       × (new ≡ record old { grants = old.grants ++ grant ∷ []; left = new.left })
   pub waits : (Contains old.left grant.entry → ⊥)
       → new ≡ record old { grants = old.grants ++ grant ∷ []; waiting = old.waiting ++ grant.entry ∷ [] }
 
--- The Entered mark of this request was told. If grants of the request wait, it is matched with one, which waits no longer. Otherwise
--- the mark is kept, after the others, or forgotten. Nothing else has changed.
+-- The Entered mark of this request was told. If grants of the request wait, it is matched with one, which waits no
+-- longer. Otherwise the mark is kept, after the others, or forgotten. Nothing else has changed.
 pub record TakesEntered (old : MatcherState) (entry : Entry) (new : MatcherState) : Type 0 where
   pub matched : Contains old.waiting entry → IsPermutation old.waiting (entry ∷ new.waiting)
       × (new ≡ record old { told = old.told ++ Entered entry ∷ []; waiting = new.waiting })

@@ -191,7 +191,8 @@ impl Auditor {
         site: &Site,
     ) -> Result<(), TakeError>
         requires { site.now.audited ≡ true }
-        ensures handed { TakesHanded self.old.nodes self.old.losing site.now.node result self.new.nodes self.new.losing }
+        ensures handed { TakesHanded self.old.nodes self.old.losing site.now.node result self.new.nodes
+            self.new.losing }
         ensures rest { self.new ≡ record self.old { nodes = self.new.nodes; losing = self.new.losing } }
         ensures audited { IsAudited self.new.world self.new.nodes }
         ensures sent { AllWereSent self.new.nodes self.new.world.moves self.new.lost }

@@ -194,7 +194,8 @@ fn go_round<R: Wait, G: Gate + Drop, O: MarkObserver>(
     ensures ok { OnOk result (NoneIsReady auditor.new.nodes) }
     ensures none_reached { OnOk result (NoneIsReached auditor.new.nodes auditor.new.losing) }
     ensures kept { OnOk result (NoneIsKept auditor.new.nodes) }
-    ensures may_be_put { OnOk result (All (MayBePut (clocks_taken auditor.old.nodes) auditor.new.nodes) auditor.new.nodes) }
+    ensures may_be_put { OnOk result
+        (All (MayBePut (clocks_taken auditor.old.nodes) auditor.new.nodes) auditor.new.nodes) }
     ensures not_audited { IsErrOf result RoundError.NotAudited → ⊥ }
     ensures other_cluster { IsErrOf result RoundError.OtherCluster → ⊥ }
     ensures found { (fault : audit_fault.AuditFault) → IsErrOf result (RoundError.Fault fault)
@@ -293,7 +294,8 @@ fn take_from<R: Wait, G: Gate + Drop>(
     requires member { number ≤ cluster.now.nodes }
     requires audited { cluster.now.audited ≡ true }
     ensures more { TakesMoreAt auditor.old number auditor.new }
-    ensures all { OnOk result (TakesAllAt auditor.old.nodes auditor.old.losing number auditor.new.nodes auditor.new.losing) }
+    ensures all { OnOk result
+        (TakesAllAt auditor.old.nodes auditor.old.losing number auditor.new.nodes auditor.new.losing) }
     ensures not_taken { (node : ℕ) (cause : TakeError) → IsErrOf result (node, cause)
         → number ≤ length auditor.old.nodes
         → (node ≡ number) × NotTakenAt auditor.old.nodes number cause auditor.new.nodes }

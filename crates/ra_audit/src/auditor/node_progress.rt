@@ -190,7 +190,8 @@ impl NodeProgress {
         losses: &mut Losses,
     ) -> Result<(), TakeError>
         requires kept { self.old.kept ≡ [] }
-        requires handing { IsLeftOfBook self.old.node (clock_of (handed_over self.old)) handed.events.items handed.lost.items }
+        requires handing { IsLeftOfBook self.old.node (clock_of (handed_over self.old)) handed.events.items
+            handed.lost.items }
         requires noted { losses.old.noted ≡ [] }
         ensures takes { TakesOver self.old self.new handed.lost.items result }
         ensures handed { handed_over self.new ≡ handed_over self.old ++ handed.events.items }
