@@ -40,7 +40,7 @@ started nonce taken =
       ready = false;
     }
 
--- It asks a new question. What is known to be acknowledged at this moment is kept with it. After 2^64-2 questions it
+-- It asks a new question. What is known to be acknowledged at this moment is kept with it. After 2^64-1 questions it
 -- asks no more.
 abbrev pub asks : Link → Link
 asks l =
@@ -86,7 +86,8 @@ shows_old l start kept = is_below l.pending kept || (not (is_nonce l.adopted sta
 
 -- from now on frames of this start are taken, and no others
 abbrev pub adopts : Link → ℕ → ℕ → Link
-adopts l start kept = record l { adopted = Some start; pending = None; is_old = false; acknowledged = max l.acknowledged kept }
+adopts l start kept =
+    record l { adopted = Some start; pending = None; is_old = false; acknowledged = max l.acknowledged kept }
 
 abbrev pub hears_welcome : Link → ℕ → ℕ → ℕ → ℕ → Link
 hears_welcome l asker question start kept =

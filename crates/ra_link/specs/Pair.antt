@@ -105,8 +105,8 @@ abbrev pub hears_packet : Host → Option Packet → Turn
 hears_packet h None = silent h
 hears_packet h (Some p) = hears h p.message p.frame
 
--- It replays its book once it has an ack of the other host. If its book has fewer frames than were acknowledged, it ends
--- instead.
+-- It replays its book once it has an ack of the other host. If its book has fewer frames than were acknowledged, it
+-- ends instead.
 abbrev pub replays_book : Host → Turn
 replays_book h =
     if may_replay h.link
@@ -142,7 +142,8 @@ acts back h Syncs = silent (syncs_book h)
 acts back h Says_hello = says h (hello_of h.link)
 acts back h Says_ack = says h (ack_of h.link)
 acts back h Says_old = says h (old_of h.link)
-acts back h (Says_frame number) = record { host = h; says = framed (get_or h.sent (number - 1) []) (frame_of h.link number) }
+acts back h (Says_frame number) =
+    record { host = h; says = framed (get_or h.sent (number - 1) []) (frame_of h.link number) }
 acts back h (Crashes sent taken) = silent (crashes h sent taken)
 
 -- An event at a host that is down: it may start, with a nonce that it never had, and its disk may fail to keep what was
@@ -191,7 +192,16 @@ run p (e ∷ events) = run (happens p e.0 e.1) events
 -- two hosts with empty books, that never were up
 abbrev pub new_host : Host
 new_host =
-    record { up = false; accused = false; link = started 0 0; sent = []; taken = []; sent_kept = 0; taken_kept = 0; starts = [] }
+    record {
+      up = false;
+      accused = false;
+      link = started 0 0;
+      sent = [];
+      taken = [];
+      sent_kept = 0;
+      taken_kept = 0;
+      starts = [];
+    }
 
 abbrev pub new_pair : Pair
 new_pair = record { one = new_host; two = new_host; to_one = []; to_two = [] }

@@ -31,7 +31,8 @@ says_frames who past (suc n) = says_frames who past n ++ (who, Says_frame (past 
 -- a second of the second round: both say again what is not acknowledged, at most 1,000 frames, and acknowledge
 abbrev pub says_again : Pair → List (Who × Event)
 says_again p =
-    says_frames One p.one.link.acknowledged (said_again p.one.link) ++ says_frames Two p.two.link.acknowledged (said_again p.two.link)
+    says_frames One p.one.link.acknowledged (said_again p.one.link)
+    ++ says_frames Two p.two.link.acknowledged (said_again p.two.link)
     ++ syncs_and_acknowledges One ++ syncs_and_acknowledges Two
 
 -- after so many seconds of the second round

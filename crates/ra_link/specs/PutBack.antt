@@ -12,7 +12,12 @@ abbrev pub puts_back : Host → ℕ → ℕ → Host
 puts_back h sent taken =
     if h.up
     then h
-    else record h { sent = take sent h.sent; taken = take taken h.taken; sent_kept = min sent h.sent_kept; taken_kept = min taken h.taken_kept }
+    else record h {
+      sent = take sent h.sent;
+      taken = take taken h.taken;
+      sent_kept = min sent h.sent_kept;
+      taken_kept = min taken h.taken_kept;
+    }
 
 abbrev pub moves : Pair → Who → Move → Pair
 moves p who (Goes e) = happens p who e

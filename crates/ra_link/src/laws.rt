@@ -56,7 +56,7 @@ pub fn whole_books_are_not_accused()
 /// It goes on: whenever both hosts are up, two rounds in which what is said comes leave nothing under way. In the first
 /// one both ask, are answered, and acknowledge. In the second one both say again what is not acknowledged, at most
 /// 1,000 frames each second, sync, and acknowledge: it lasts a second for each 1,000 frames that a host lacks. Only a
-/// host that has asked 2^64-3 questions since its start may be unable to ask once more.
+/// host that has asked 2^64-2 questions since its start may be unable to ask once more.
 pub fn two_rounds_leave_nothing_under_way()
     ensures { (events : List (Who × Event)) (seconds : ℕ) (who : Who) → let p = after events in
         p.one.up ≡ true → p.two.up ≡ true
@@ -101,8 +101,8 @@ pub fn a_ready_host_passes_old_over()
         → happens p who (Comes which) ≡ p }
 {}
 
-/// A ready host never ends by itself, whatever comes, even if books are put back. So a host whose book is old ends before
-/// it says or takes a frame.
+/// A ready host never ends by itself, whatever comes, even if books are put back. So a host whose book is old ends
+/// before it says or takes a frame.
 pub fn a_ready_host_is_not_accused()
     ensures { (all : List (Who × Move)) (who : Who) (event : Event) → let p = after_moves all in
         (this who p).up ≡ true → (this who p).link.ready ≡ true → (this who (happens p who event)).accused ≡ false }

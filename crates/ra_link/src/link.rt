@@ -77,7 +77,8 @@ impl Link {
         }
     }
 
-    /// Asks a new question, as at a new connection. Say `hello` then. After 2^64-2 questions of a start it does nothing.
+    /// Asks a new question, as at a new connection. Say `hello` then. After 2^64-1 questions of a start it does
+    /// nothing.
     pub fn ask(&mut self)
         ensures { self.new ≡ asks self.old }
     {
