@@ -20,7 +20,7 @@ is_nonce (Some nonce) start = nonce == start
 
 -- ---- A start, and its questions
 
--- A start with this nonce, of a host whose disk has so many frames of the other one. Its first question is open, and
+-- A start with this nonce, of a host whose disk has `taken` frames of the other one. Its first question is open, and
 -- nothing is known to be acknowledged.
 abbrev pub started : ℕ → ℕ → Link
 started nonce taken =
@@ -60,7 +60,7 @@ hello_of l = if is_open l.pending then Some (Hello l.own l.asked) else None
 abbrev pub hears_hello : Link → ℕ → Link
 hears_hello l start = if is_nonce l.heard start then l else asks (record l { heard = Some start })
 
--- It answers at once: so many frames of the asker are on its disk.
+-- It answers at once, with how many frames of the asker are on its disk.
 abbrev pub welcome_of : Link → ℕ → ℕ → Message
 welcome_of l start question = Welcome start question l.own l.kept
 
@@ -113,7 +113,7 @@ hears_ack l start other kept =
 abbrev pub ack_accuses : Link → ℕ → ℕ → ℕ → Bool
 ack_accuses l start other kept = is_ack l start other && is_above l kept
 
--- it says so many to the adopted start, if all that was taken is on the disk
+-- It acknowledges all that was taken to the adopted start, if it is on the disk.
 abbrev pub ack_to : Option ℕ → Link → Option Message
 ack_to None l = None
 ack_to (Some other) l = if l.kept == l.taken then Some (Ack l.own other l.kept) else None
@@ -127,8 +127,8 @@ ack_of l = ack_to l.adopted l
 abbrev pub old_of : Link → Option Message
 old_of l = if is_open l.pending && l.is_old then Some (Old l.acknowledged) else None
 
--- This host is told that its own book is old: it lacks frames that it has acknowledged. A ready host is never told so
--- rightly, since its book lacks nothing: what comes then was said before it was ready, and is passed over.
+-- This host is told that its own book is old: it lacks frames that it has acknowledged. A ready host passes it over:
+-- its book has all that the other's present start knows to be acknowledged, so what comes was said of an earlier one.
 abbrev pub old_accuses : Link → ℕ → Bool
 old_accuses l count = not l.ready && nat_lt l.taken count
 
@@ -158,7 +158,7 @@ may_say l number = l.ready && nat_lt 0 number && nat_le number l.sent
 abbrev pub frame_of : Link → ℕ → Option Message
 frame_of l number = if may_say l number then Some (Frame l.own number) else None
 
--- so many frames after the acknowledged ones it says again at once: those on its disk, at most 1,000
+-- how many frames after the acknowledged ones it says again at once: those on its disk, at most 1,000
 abbrev pub said_again : Link → ℕ
 said_again l = min 1000 (l.sent - l.acknowledged)
 
@@ -176,7 +176,7 @@ syncs l = record l { sent = l.made; kept = l.taken }
 abbrev pub may_replay : Link → Bool
 may_replay l = not l.ready && l.confirmed
 
--- the book was replayed, and so many frames for the other host are in it
+-- the book was replayed, and `all` frames for the other host are in it
 abbrev pub replays : Link → ℕ → Link
 replays l all = record l { made = all; sent = all; ready = true }
 

@@ -7,7 +7,7 @@ use Rattle.ra_link.specs.declared.link.Link.{Link}
 use Rattle.ra_link.specs.Link.{greatest, started, asks, hello_of, hears_hello, welcome_of, welcome_accuses, hears_welcome, ack_accuses, hears_ack, old_accuses, ack_of, old_of, is_next, hears_frame, frame_of, makes, syncs, may_replay, replays}
 
 -- One of the two hosts. `sent` are the frames in its book that its node has sent to the other host, and `taken` those
--- that it has taken from it. Of both so many are on its disk as `sent_kept` and `taken_kept` say; a crash may lose the
+-- that it has taken from it. The first `sent_kept` and `taken_kept` of them are on its disk; a crash may lose the
 -- others. `starts` are the nonces of its starts. It is accused if it has ended by itself since it started last: a count
 -- showed that its book is old.
 pub record Host : Type 0 where
@@ -26,7 +26,7 @@ pub record Packet : Type 0 where
   pub frame : List ℕ
 
 -- What happens at a host. What was said to it comes by its place in the list of all that was said, the last one first.
--- A crash leaves what is on the disk, and of the rest the first: so many frames that were sent, and so many taken.
+-- A crash leaves what is on the disk, and of the rest the first: `sent` frames that were sent, and `taken` that came.
 pub data Event : Type 0 where
   Start : (nonce : ℕ) → Event
   Connects : Event
@@ -229,7 +229,7 @@ said_by Two p = p.to_one
 abbrev pub IsPrefixOf : List (List ℕ) → List (List ℕ) → Type 0
 IsPrefixOf xs ys = (more : List (List ℕ)) × (xs ++ more ≡ ys)
 
--- so many frames of the receiver are on the sender's disk, it says
+-- how many frames of the receiver are on the sender's disk, as it says
 abbrev pub count_in : Message → ℕ
 count_in (Hello start question) = 0
 count_in (Welcome asker question start kept) = kept

@@ -1,4 +1,5 @@
--- Two rounds in which what is said comes: after them, nothing is under way between two hosts that are up.
+-- Two rounds of one schedule: each message comes at once after it was said, and nothing else happens. After them,
+-- nothing is under way between two hosts that are up.
 use Rattle.std.specs.Prelude.{◌≡◌, ◌≤◌, ◌⊎◌, true, false, ◌+◌, ◌*◌, ◌++◌, ◌∷◌, [], ℕ, List, suc, zero, length}
 use Rattle.ra_link.specs.Link.{said_again}
 use Rattle.ra_link.specs.Pair.{Host, Event, Who, Pair, run, this, other}
@@ -35,7 +36,7 @@ says_again p =
     ++ says_frames Two p.two.link.acknowledged (said_again p.two.link)
     ++ syncs_and_acknowledges One ++ syncs_and_acknowledges Two
 
--- after so many seconds of the second round
+-- after this many seconds of the second round
 abbrev pub after_seconds : ℕ → Pair → Pair
 after_seconds zero p = p
 after_seconds (suc n) p = after_seconds n (run p (says_again p))

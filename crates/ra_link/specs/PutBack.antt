@@ -1,9 +1,11 @@
--- Two hosts whose books may be put back: as long as a host is down, its disk may be replaced by what it was before.
+-- Two hosts whose books may be put back: while a host is down, its book may be cut to the first of the lines that it
+-- has then. A copy with lines that a crash or another put-back took since is none of these.
 use Rattle.std.specs.Prelude.{ℕ, Bool, true, false, List, [], ◌∷◌, take, min, if◌then◌else◌}
 use Rattle.ra_link.specs.Pair.{Host, Event, Who, Pair, happens, new_pair}
 use Rattle.ra_link.specs.Pair.Who.{One, Two}
 
--- an event, or a book is put back: so many frames that were sent are left in it, and so many that were taken
+-- an event, or a book is put back: its first `sent` frames that were sent are left in it, and its first `taken` that
+-- came
 pub data Move : Type 0 where
   Goes : (event : Event) → Move
   Put_back : (sent taken : ℕ) → Move

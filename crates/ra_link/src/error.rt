@@ -1,14 +1,12 @@
 use std::fmt;
 use thiserror::Error;
 
-/// Why a host ends.
+/// The book of this host is old: a count of the other host shows that it lacks frames that were on its disk. The host
+/// has to end.
 #[derive(Clone, Copy, Debug, PartialEq, Eq, Error)]
-pub enum BookError {
-    /// Its book is old: a count of the other host shows that it lacks frames that were on its disk.
-    Old,
-}
+pub struct OldBook;
 
-impl fmt::Display for BookError {
+impl fmt::Display for OldBook {
     fn fmt<W: fmt::Write>(&self, f: &mut fmt::Formatter<W>) -> fmt::Result {
         fmt::Debug::fmt(self, f)
     }

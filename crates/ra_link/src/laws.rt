@@ -26,7 +26,7 @@ pub fn acknowledged_frames_are_on_the_disk()
         (this who p).link.acknowledged ≤ (other who p).taken_kept }
 {}
 
-/// As many frames as a host ever said to have on its disk are there, and stay there.
+/// As many frames as a host ever said to have on its disk are there, also later.
 pub fn counts_are_true()
     ensures { (events : List (Who × Event)) (who : Who) → let p = after events in
         All (λ packet. count_in packet.message ≤ (this who p).taken_kept) (said_by who p) }
@@ -48,15 +48,16 @@ pub fn no_old_is_said_of_whole_books()
         All (λ packet. says_old packet.message ≡ false) (said_by who (after events)) }
 {}
 
-/// No host ends by itself.
+/// No host ends by itself, after whatever events.
 pub fn whole_books_are_not_accused()
     ensures { (events : List (Who × Event)) (who : Who) → (this who (after events)).accused ≡ false }
 {}
 
-/// It goes on: whenever both hosts are up, two rounds in which what is said comes leave nothing under way. In the first
-/// one both ask, are answered, and acknowledge. In the second one both say again what is not acknowledged, at most
-/// 1,000 frames each second, sync, and acknowledge: it lasts a second for each 1,000 frames that a host lacks. Only a
-/// host that has asked 2^64-2 questions since its start may be unable to ask once more.
+/// It goes on: whenever both hosts are up, two rounds leave nothing under way, if each message comes at once after it
+/// is said, and nothing else happens. In the first one both ask, are answered, and acknowledge. In the second one both
+/// say again what is not acknowledged, at most 1,000 frames each second, sync, and acknowledge: it lasts a second for
+/// each 1,000 frames that a host lacks. Only a host that has asked 2^64-2 questions since its start may be unable to
+/// ask once more.
 pub fn two_rounds_leave_nothing_under_way()
     ensures { (events : List (Who × Event)) (seconds : ℕ) (who : Who) → let p = after events in
         p.one.up ≡ true → p.two.up ≡ true
@@ -64,8 +65,8 @@ pub fn two_rounds_leave_nothing_under_way()
         → LackFew seconds p → IsSettled who (after_two_rounds seconds p) }
 {}
 
-/// Even if books are put back: a host that has adopted the start of the other one which runs knows of no more frames
-/// than are on that one's disk. So it says again each frame that is not there.
+/// Even if books are put back: a host that has adopted the start of the other one which runs knows of no more frames to
+/// be acknowledged than are on that one's disk. So it says again each frame that is not there.
 pub fn what_is_known_of_a_running_start_is_on_its_disk()
     ensures { (all : List (Who × Move)) (who : Who) → let p = after_moves all in
         (this who p).up ≡ true → (other who p).up ≡ true
@@ -73,10 +74,11 @@ pub fn what_is_known_of_a_running_start_is_on_its_disk()
         → (other who p).link.acknowledged ≤ (this who p).taken_kept }
 {}
 
-/// A book that was put back is found out, or it changes nothing. If a host is up and ready, then its book lacks no
-/// frame that the other one has taken, and none that it acknowledged to it: what the other one has taken is a prefix of
-/// what is on its disk, and what the other one knows to be acknowledged is there. So a host whose book lacks such a
-/// frame is never ready. If both are ready and one knows that all its frames are acknowledged, the other one has them.
+/// Even if books are put back: if a host is up and ready, its disk has each frame that the other one has taken from it,
+/// and as many of the other's frames as the other's present start knows to be acknowledged. So a host whose book lacks
+/// such a frame is never ready. It may lack frames that it acknowledged to an earlier start of the other one alone:
+/// that one says them again. If both are ready and one knows that all its frames are acknowledged, the other one has
+/// them.
 pub fn a_ready_host_lacks_nothing()
     ensures taken { (all : List (Who × Move)) (who : Who) → let p = after_moves all in
         (this who p).up ≡ true → (this who p).link.ready ≡ true
@@ -92,8 +94,7 @@ pub fn a_ready_host_lacks_nothing()
         × ((this who p).sent_kept ≡ length (this who p).sent) }
 {}
 
-/// A ready host is not ended by an `Old` that comes: it changes nothing. By `a_ready_host_lacks_nothing` it was said
-/// before the host was ready, and comes late.
+/// A ready host is not ended by an `Old` that comes, however late: it changes nothing.
 pub fn a_ready_host_passes_old_over()
     ensures { (p : Pair) (who : Who) (which count : ℕ) (frame : List ℕ) →
         (this who p).up ≡ true → (this who p).link.ready ≡ true
@@ -101,8 +102,8 @@ pub fn a_ready_host_passes_old_over()
         → happens p who (Comes which) ≡ p }
 {}
 
-/// A ready host never ends by itself, whatever comes, even if books are put back. So a host whose book is old ends
-/// before it says or takes a frame.
+/// A ready host never ends by itself, whatever comes, even if books are put back. So a host that ends by itself has
+/// neither said nor taken a frame since it started.
 pub fn a_ready_host_is_not_accused()
     ensures { (all : List (Who × Move)) (who : Who) (event : Event) → let p = after_moves all in
         (this who p).up ≡ true → (this who p).link.ready ≡ true → (this who (happens p who event)).accused ≡ false }
@@ -118,8 +119,8 @@ pub fn a_host_whose_own_book_is_whole_is_not_accused()
         IsPrefixOf (other who p).taken (take (this who p).sent_kept (this who p).sent) }
 {}
 
-/// A book that lacks what was taken is found out: if a host may replay its book, and the other one has taken more
-/// frames than are in it, then it ends instead.
+/// A book that lacks what was taken is found out at its replay: if the other host has taken more frames than are in it,
+/// then its host, once it has an ack, ends as it replays.
 pub fn a_book_that_lacks_taken_frames_is_found_out()
     ensures { (all : List (Who × Move)) (who : Who) → let p = after_moves all in
         (this who p).up ≡ true → (this who p).link.confirmed ≡ true → (this who p).link.ready ≡ false
@@ -127,8 +128,9 @@ pub fn a_book_that_lacks_taken_frames_is_found_out()
         → let after_it = this who (happens p who Replays) in (after_it.up ≡ false) × (after_it.accused ≡ true) }
 {}
 
-/// It lasts: once a host was ready, its book lacks nothing that the other one has, whatever happens, as long as no book
-/// is put back: crashes and new starts leave it so.
+/// It lasts: once a host was ready, its disk has each frame that the other one has taken from it, and as many of the
+/// other's frames as the other's present start knows to be acknowledged, through all crashes and new starts, as long as
+/// no book is put back.
 pub fn a_host_that_was_ready_lacks_nothing()
     ensures taken { (all : List (Who × Move)) (events : List (Who × Event)) (who : Who) → let p = after_moves all in
         (this who p).up ≡ true → (this who p).link.ready ≡ true
@@ -144,10 +146,11 @@ pub fn a_host_that_was_ready_lacks_nothing()
         (other who q).up ≡ true → (other who q).link.acknowledged ≤ (this who q).taken_kept }
 {}
 
-/// It goes on, or it is found out, even if books are put back: whenever both hosts are up, two rounds in which what is
-/// said comes leave nothing under way, unless a host has ended since its book is old. In the first one each host syncs
-/// before it answers, and one that was shown an old book says so. The second one lasts a second for each 1,000 frames
-/// that a host lacks. Only after 2^64-3 questions of a start this may fail.
+/// It goes on, or it is found out, even if books are put back: whenever both hosts are up, two rounds leave nothing
+/// under way, unless a host has ended since its book is old, if each message comes at once after it is said, and
+/// nothing else happens. In the first one each host syncs before it answers, and one that was shown an old book says
+/// so. The second one lasts a second for each 1,000 frames that a host lacks. Only after 2^64-3 questions of a start
+/// this may fail.
 pub fn two_rounds_settle_or_find_out()
     ensures { (all : List (Who × Move)) (seconds : ℕ) (who : Who) → let p = after_moves all in
         p.one.up ≡ true → p.two.up ≡ true

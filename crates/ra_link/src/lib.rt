@@ -8,7 +8,7 @@ mod laws;
 mod link;
 mod message;
 
-pub use error::{BookError, MakeError};
+pub use error::{MakeError, OldBook};
 pub use laws::{
     a_book_that_lacks_taken_frames_is_found_out, a_host_that_was_ready_lacks_nothing,
     a_host_whose_own_book_is_whole_is_not_accused, a_ready_host_lacks_nothing,

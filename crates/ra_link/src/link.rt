@@ -4,7 +4,7 @@ ghost use Rattle.ra_link.specs.Link.{welcome_accuses, hears_welcome, ack_accuses
 ghost use Rattle.ra_link.specs.Link.{old_accuses, heard_frame, hears_frame, frame_of, said_again, makes, syncs};
 ghost use Rattle.ra_link.specs.Link.{is_answer, is_above, shows_old, may_replay, replay_accuses, replays};
 
-use crate::{BookError, MakeError, Message};
+use crate::{MakeError, Message, OldBook};
 
 /// The most frames that a host says again at once.
 const SAID_AGAIN: u64 = 1000;
@@ -20,7 +20,7 @@ pub enum Heard {
     Passed,
 }
 
-/// What one start of a host knows of another host, as counts: it keeps no frame, and allocates nothing.
+/// What one start of a host knows of another host, as counts. No call allocates, and each takes constant time.
 ///
 /// A host has one link for each other host. It numbers the frames for it from 1, in the order of its book, takes the
 /// other's frames one in order and each once, and acknowledges them when they are on its disk.
@@ -55,8 +55,8 @@ pub struct Link {
 }
 
 impl Link {
-    /// Returns the link of a new start. `nonce` is one that no start had before, and so many frames of the other host
-    /// are on the disk as `taken` says. Say `hello` then.
+    /// Returns the link of a new start. `nonce` is one that no start had before, and `taken` frames of the other host
+    /// are on the disk. Say `hello` then.
     pub fn new(nonce: u128, taken: u64) -> Link
         ensures { result ≡ started nonce taken }
     {
@@ -170,24 +170,25 @@ impl Link {
     ///
     /// # Errors
     ///
-    /// `Old`: it answers the open question, this host is ready, and the count is more than it has sent. The link is
-    /// then as before. Only a forged answer does so (`a_ready_host_is_not_accused`).
+    /// `OldBook`: it answers the open question, this host is ready, and the count is more than it has sent. The link is
+    /// then as before. As long as books are put back to their first lines alone, only a forged answer does so
+    /// (`a_ready_host_is_not_accused`).
     pub fn hear_welcome(
         &mut self,
         asker: u128,
         question: u64,
         start: u128,
         kept: u64,
-    ) -> Result<(), BookError>
+    ) -> Result<(), OldBook>
         ensures link { IsOk result → self.new ≡ hears_welcome self.old asker question start kept }
-        ensures old { IsErrOf result BookError.Old ↔ IsTrue (welcome_accuses self.old asker question kept) }
+        ensures old { IsErr result ↔ IsTrue (welcome_accuses self.old asker question kept) }
         ensures err { IsErr result → self.new ≡ self.old }
     {
         if !self.is_answer(asker, question) {
             return Ok(());
         }
         if self.is_above(kept) {
-            return Err(BookError::Old);
+            return Err(OldBook);
         }
         if self.shows_old(start, kept) {
             self.is_old = true;
@@ -223,35 +224,35 @@ impl Link {
     ///
     /// # Errors
     ///
-    /// `Old`: it is one, this host is ready, and the count is more than it has sent. The link is then as before. Only a
-    /// forged ack does so (`a_ready_host_is_not_accused`).
-    pub fn hear_ack(&mut self, start: u128, other: u128, kept: u64) -> Result<(), BookError>
+    /// `OldBook`: it is one, this host is ready, and the count is more than it has sent. The link is then as before.
+    /// Only a forged ack does so, as for `hear_welcome`.
+    pub fn hear_ack(&mut self, start: u128, other: u128, kept: u64) -> Result<(), OldBook>
         ensures link { IsOk result → self.new ≡ hears_ack self.old start other kept }
-        ensures old { IsErrOf result BookError.Old ↔ IsTrue (ack_accuses self.old start other kept) }
+        ensures old { IsErr result ↔ IsTrue (ack_accuses self.old start other kept) }
         ensures err { IsErr result → self.new ≡ self.old }
     {
         if !is(self.adopted, start) || other != self.own {
             return Ok(());
         }
         if self.is_above(kept) {
-            return Err(BookError::Old);
+            return Err(OldBook);
         }
         self.acknowledged = self.acknowledged.max(kept);
         self.confirmed = true;
         Ok(())
     }
 
-    /// Hears that its own book is old. A ready host passes it over: its book lacks nothing, so that this was said
-    /// before it was ready, and comes late.
+    /// Hears that its own book is old. A ready host passes it over: its book has all that the other's present start
+    /// knows to be acknowledged (`a_ready_host_lacks_nothing`), so what comes was said of an earlier one.
     ///
     /// # Errors
     ///
-    /// `Old`: the host is not ready, and has taken fewer frames than `count`.
-    pub fn hear_old(&self, count: u64) -> Result<(), BookError>
-        ensures old { IsErrOf result BookError.Old ↔ IsTrue (old_accuses self.now count) }
+    /// `OldBook`: the host is not ready, and has taken fewer frames than `count`.
+    pub fn hear_old(&self, count: u64) -> Result<(), OldBook>
+        ensures old { IsErr result ↔ IsTrue (old_accuses self.now count) }
     {
         if !self.ready && self.taken < count {
-            return Err(BookError::Old);
+            return Err(OldBook);
         }
         Ok(())
     }
@@ -293,18 +294,18 @@ impl Link {
     ///
     /// # Errors
     ///
-    /// `Old`: it is confirmed and not ready, and `count` is less than is acknowledged. The link is then as before.
-    pub fn replayed(&mut self, count: u64) -> Result<(), BookError>
+    /// `OldBook`: it is confirmed and not ready, and `count` is less than is acknowledged. The link is then as before.
+    pub fn replayed(&mut self, count: u64) -> Result<(), OldBook>
         ensures ready { IsOk result → IsTrue (may_replay self.old) → self.new ≡ replays self.old count }
         ensures passed { may_replay self.old ≡ false → self.new ≡ self.old }
-        ensures old { IsErrOf result BookError.Old ↔ IsTrue (replay_accuses self.old count) }
+        ensures old { IsErr result ↔ IsTrue (replay_accuses self.old count) }
         ensures err { IsErr result → self.new ≡ self.old }
     {
         if self.ready || !self.confirmed {
             return Ok(());
         }
         if count < self.acknowledged {
-            return Err(BookError::Old);
+            return Err(OldBook);
         }
         self.made = count;
         self.sent = count;

@@ -17,7 +17,7 @@ pub enum Message {
         question: u64,
         /// The nonce of the start that answers.
         start: u128,
-        /// So many frames of the asker are on the disk of the host that answers.
+        /// How many frames of the asker are on the disk of the host that answers.
         kept: u64,
     },
     /// A frame.
