@@ -26,8 +26,8 @@ abbrev pub first_fault : List BookState → Option Stop
 first_fault [] = None
 first_fault (book ∷ books) = fault_or book.fault (first_fault books)
 
--- `OutOfOrder` and `Unreleased` are answered exactly if the script is so: a client takes names out of order, or otherwise
--- one holds a name at its end
+-- `OutOfOrder` and `Unreleased` are answered exactly if the script is so: a client takes names out of order, or
+-- otherwise one holds a name at its end
 pub record ChecksScript {T : Type 0} (script : ScriptState) (answer : Result T ClusterError) : Type 0 where
   pub out_of_order : IsErrOf answer OutOfOrder ↔ IsOutOfOrder script
   pub unreleased : IsErrOf answer Unreleased ↔ ((IsOutOfOrder script → ⊥) × IsUnreleased script)
@@ -48,10 +48,11 @@ pub record AreSound (books : List BookState) (grants : List Grant) : Type 0 wher
   pub granted : All (λ g. IsGranted books g.entry) grants
   pub once : AllPairs (λ a b. a ≢ b) grants
 
--- What the books of a script's nodes settle into: the steps are those of these very books in the settled order, with
--- their losses after them, and the report is that of the run of these steps. Since only one settled order exists, only
--- one such outcome exists.
-pub record IsOutcome (script : ScriptState) (books : List BookState) (grants : List Grant) (settled : Settled) : Type 0 where
+-- What the books of a script's nodes settle into: the steps of these very books in the settled order, with their losses
+-- after them, and the report of the run of these steps. Since only one settled order exists, only one such outcome
+-- exists.
+pub record IsOutcome (script : ScriptState) (books : List BookState) (grants : List Grant)
+    (settled : Settled) : Type 0 where
   pub are : AreOf script books
   pub sound : AreSound books grants
   pub placed : List Placed
@@ -78,7 +79,8 @@ RefusesReport script report Memory = ⊥
 
 -- the books settle, and the report of their run is refused for this cause
 abbrev pub IsReported : ScriptState → List BookState → List Grant → ClusterError → Type 0
-IsReported script books grants fault = (settled : Settled) × IsOutcome script books grants settled × RefusesReport script settled.report fault
+IsReported script books grants fault =
+    (settled : Settled) × IsOutcome script books grants settled × RefusesReport script settled.report fault
 
 -- Why a script was not brought to its end, if no book has a fault. Memory may run out only after the books were found
 -- to be those of the script's nodes, and each frame that came to have been sent.
@@ -106,8 +108,8 @@ pub record IsDone (script : ScriptState) (settled : Settled) : Type 0 where
   pub requests : settled.report.requests ≡ locks_of script
   pub count : settled.report.sent ≡ 2 * (script.nodes - 1) * locks_of script
 
--- A record of a run that brought the script to its end, as threads make one: these books have the histories of its nodes. No
--- node was stopped, and no frame is flagged lost. They settle into this run.
+-- A record of a run that brought the script to its end, as threads make one: these books have the histories of its
+-- nodes. No node was stopped, and no frame is flagged lost. They settle into this run.
 pub record IsRecord (script : ScriptState) (books : List BookState) (settled : Settled) : Type 0 where
   pub histories : All HasHistory books
   pub no_fault : All (λ book. book.fault ≡ None) books

@@ -4,7 +4,8 @@ use Rattle.ra_stamp.specs.declared.entry.Mark.{Mark}
 use Rattle.ra_stamp.specs.declared.entry.Mark.TheVariants.{Requested, Entered, Left, Withdrawn}
 use Rattle.ra_schedule.specs.Script.{ScriptState, ScriptClient, client_at}
 pub use Rattle.ra_schedule.specs.Performing.{locks_in, locks_of}
-pub use Rattle.ra_schedule.specs.Plan.{client_of_mark, marks_of_client, IsRequestFor, IsNextMark, FollowsOps, MeetsPlanOf, MeetsPlan}
+pub use Rattle.ra_schedule.specs.Plan.{client_of_mark, marks_of_client, IsRequestFor, IsNextMark}
+pub use Rattle.ra_schedule.specs.Plan.{FollowsOps, MeetsPlanOf, MeetsPlan}
 use Rattle.ra_world.specs.declared.text.report.Report.{Report}
 
 -- the client exists, and the marks that name it are those of its operations
@@ -12,7 +13,7 @@ abbrev pub IsFollowed : ScriptState → ℕ → List Mark → Type 0
 IsFollowed script client marks = (c : ScriptClient) × (client_at script client ≡ Some c)
     × FollowsOps c.node c.ops (marks_of_client client marks)
 
--- whether a mark is that of a request that is made
+-- whether a mark says that a request is made
 abbrev pub is_request : Mark → Bool
 is_request (Requested entry) = true
 is_request (Entered entry) = false

@@ -12,13 +12,16 @@ use Rattle.ra_book.specs.Book.{BookState, whole_events, LeadsTo}
 
 -- the node of this book was this node after these events
 abbrev pub WasAfter : BookState → List BookEvent → NodeState → Type 0
-WasAfter book events node = (happened : List Happening) × (map (λ h. h.event) happened ≡ map (λ e. node_event e.kind) events)
+WasAfter book events node = (happened : List Happening)
+    × (map (λ h. h.event) happened ≡ map (λ e. node_event e.kind) events)
     × NodeEvents (opening_node book.me book.nodes book.start) happened node
 
 -- whenever a client of this node asked for a name, it waited for nothing, and each name that it held was below that one
 abbrev pub TakesNamesInOrder : BookState → Type 0
-TakesNamesInOrder book = (before after : List BookEvent) (clock client : ℕ) (name : List ℕ) (mode : Mode) (node : NodeState)
-    → whole_events book ≡ before ++ record { clock = clock; kind = Ask client name mode } ∷ after → WasAfter book before node
+TakesNamesInOrder book = (before after : List BookEvent) (clock client : ℕ) (name : List ℕ) (mode : Mode)
+    (node : NodeState)
+    → whole_events book ≡ before ++ record { clock = clock; kind = Ask client name mode } ∷ after
+    → WasAfter book before node
     → IsInOrder node client name
 
 -- some client of these books can go on: it waits for nothing, and it holds this name or one above it
@@ -41,5 +44,5 @@ pub record IsHeldInOrder (books : List BookState) (name : List ℕ) : Type 0 whe
   pub leads : LeadsTo book node
   pub client : ℕ
   pub holds : HoldsName node client name
-  pub ascends : (book' : BookState) (node' : NodeState) (holder : ℕ) (other : List ℕ) → Contains books book' → LeadsTo book' node'
-      → HoldsName node' holder name → WaitsForName node' holder other → IsBelow name other
+  pub ascends : (book' : BookState) (node' : NodeState) (holder : ℕ) (other : List ℕ) → Contains books book'
+      → LeadsTo book' node' → HoldsName node' holder name → WaitsForName node' holder other → IsBelow name other

@@ -72,7 +72,7 @@ pub struct Recorded {
 /// Nothing bounds how long the threads wait. Each client has to take its names in ascending order and to hold none at
 /// its end, since clients that take names in different orders can wait for each other forever.
 ///
-/// The cost is that of [`run_threads`] and [`settle_script`]. Before them, for each lock of a client, the client's
+/// It costs what [`run_threads`] and [`settle_script`] cost. Before them, for each lock of a client, the client's
 /// operations are searched up to the unlock.
 ///
 /// # Errors
@@ -95,7 +95,7 @@ pub fn run_cluster<R: Threads + Wait + Sync, G: Gate>(
     gate: &G,
 ) -> Result<Settled, ClusterError>
     ensures checked { ChecksScript script.now result }
-    // The report is that of a run of the steps at the script's nodes, and meets the script and the main theorem.
+    // It reports a run of the steps at the script's nodes, and meets the script and the main theorem.
     ensures done { IfOk result (IsDone script.now) }
 {
     let recorded = record_cluster(rt, alloc, script, gate)?;
@@ -124,7 +124,7 @@ pub fn record_cluster<R: Threads + Wait + Sync, G: Gate>(
 }
 
 /// Checks whether threads can run a script: whether each client takes its names in ascending order and holds none at
-/// its end. It does not allocate. The cost is that of [`first_out_of_order`] and [`first_unreleased`].
+/// its end. It does not allocate. It costs what [`first_out_of_order`] and [`first_unreleased`] cost.
 ///
 /// # Errors
 ///

@@ -7,8 +7,8 @@ use ra_schedule::{Op, Script};
 use ra_stamp::{Entry, Mark, Name, NodeId};
 
 /// Returns whether the marks that name each client are those of its operations, in order, at its node, and no mark
-/// names a client that the script does not have. It does not allocate. The cost is the number of clients times that of
-/// marks.
+/// names a client that the script does not have. It does not allocate. It takes time linear in the number of clients
+/// times the number of marks.
 pub fn meets_plan(script: &Script, marks: &[Mark]) -> bool
     ensures { IsTrue result ↔ MeetsPlan script.now marks.now }
 {
@@ -38,7 +38,7 @@ fn name_clients(marks: &[Mark], count: u32) -> bool
     true
 }
 
-/// Returns whether a mark is that of a request that is made.
+/// Returns whether a mark says that a request is made.
 fn is_request(mark: &Mark) -> bool
     ensures { result ≡ spec.is_request mark.now }
 {

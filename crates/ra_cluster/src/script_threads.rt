@@ -24,8 +24,8 @@ pub struct ScriptRun<'a, G> {
 ///
 /// A client whose node is stopped ends. If a thread cannot be started, or a client's call is refused for another cause,
 /// the cluster is stopped. A client does nothing if the cluster does not have its node. Nothing bounds how long the
-/// threads wait; a script that [`run_cluster`](crate::run_cluster) refuses may keep them waiting forever. The cost is
-/// that of a thread for each node and each client, and of the calls of the sites.
+/// threads wait; a script that [`run_cluster`](crate::run_cluster) refuses may keep them waiting forever. It costs a
+/// thread for each node and each client, and the calls of the sites.
 pub fn run_threads<R: Threads + Wait + Sync, G: Gate + Drop>(
     rt: &R,
     alloc: Global,

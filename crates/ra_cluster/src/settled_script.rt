@@ -12,7 +12,7 @@ use std::alloc::Global;
 
 /// Settles the books of the nodes that ran a script, with what its clients were granted, and checks that the script was
 /// brought to its end. If so, nobody waits or is queued, and no message was lost or is under way. There are as many
-/// requests as locks in the script, and with N nodes 2(N-1) times as many messages. The cost is that of `settle` plus,
+/// requests as locks in the script, and with N nodes 2(N-1) times as many messages. It costs what `settle` costs and,
 /// for each client, time linear in the number of marks.
 ///
 /// # Errors
@@ -33,14 +33,15 @@ pub fn settle_script(
     books: &[Book],
     grants: &[Grant],
 ) -> Result<Settled, ClusterError>
-    // The report is that of the one run into which these very books settle, with each grant in it exactly once.
+    // It reports the one run into which these very books settle, with each grant in it exactly once.
     ensures outcome { IfOk result (IsOutcome script.now books.now grants.now) }
     // Its marks are those of the script, it ends quietly, and its requests and messages are counted.
     ensures done { IfOk result (IsDone script.now) }
     ensures fault { (stop : Stop) → IsErrOf result (ClusterError.Fault stop)
         ↔ (spec.first_fault books.now ≡ Some stop) }
     // If no node was stopped, each refusal comes only if its cause applies.
-    ensures refused { spec.first_fault books.now ≡ None → IfErr result (RefusesSound script.now books.now grants.now) }
+    ensures refused { spec.first_fault books.now ≡ None
+        → IfErr result (RefusesSound script.now books.now grants.now) }
     ensures threads { IfErr result IsOfThreads }
 {
     if let Some(stop) = first_fault(books) {
