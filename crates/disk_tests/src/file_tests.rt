@@ -1,10 +1,10 @@
-use ra_disk::{Book, BookError, DiskFile, OpenError};
+use ra_disk::{Book, FileError, DiskFile, OpenError};
 use std::fs;
 use std::test::Fail;
 
 fn opened(rt: &HostRuntime, path: &str) -> Result<(Book<DiskFile>, Vec<u8>), Fail> {
     let file = DiskFile::open(rt, path)?;
-    let (book, text) = Book::open(rt.alloc(), file).map_err(|e: (BookError, DiskFile)| e.0)?;
+    let (book, text) = Book::open(rt.alloc(), file).map_err(|e: (FileError, DiskFile)| e.0)?;
     Ok((book, text))
 }
 

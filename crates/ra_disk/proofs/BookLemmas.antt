@@ -1,10 +1,10 @@
 -- Each event keeps what holds of the file of a book.
-use Rattle.std.proofs.Common.{◌≡◌, ◌≤◌, ℕ, List, [], ◌∷◌, ◌++◌, Result, Ok, Err, OnOk, Some, None, length, take, drop, min, max, refl, sym, ◌∙◌, ap, subst, arith, length-append, take-append-drop}
+use Rattle.std.proofs.Common.{◌≡◌, ◌≤◌, ℕ, List, [], ◌∷◌, ◌++◌, Result, Ok, Err, OnOk, Some, None, length, take, drop, min, max, refl, sym, ◌∙◌, ap, subst, arith, length-append, take-append-drop, append-nil, append_assoc}
 use Rattle.std.proofs.lemmas.List.{take_at, take-take, take_all, take-append-le, length-take}
 use Rattle.std.specs.Result.{result_err}
 use Rattle.ra_disk.specs.Lines.{lines, whole, IsWhole, IsPrefixOf, AreAmong, AreFirst}
 use Rattle.ra_disk.specs.Contents.{Contents, seen, on_disk, settled, appends, cuts, syncs, crashes, MayLeave}
-use Rattle.ra_disk.specs.Book.{State, Event, file_of, cuts_torn, opens, step, steps, after, lines_in, given, IsReady, AreOfClosed}
+use Rattle.ra_disk.specs.Book.{State, Event, file_of, cuts_torn, opens, step, steps, after, lines_in, given, IsReady, AreOfOpen, AreOfClosed}
 use Rattle.ra_disk.specs.Book.State.{Closed, Open}
 use Rattle.ra_disk.specs.Book.Event.{Opens, Cuts, Appends, Syncs, Crashes}
 use Rattle.ra_disk.proofs.LineLemmas.{lines_of_front, lines_of_whole, whole_is_whole, take_whole, length-whole, lines_of_both, both_whole, whole_reaches, among_longer, among_both, among_front}
@@ -209,6 +209,29 @@ open_was_given events f is = front_given f.size f.written (given events) (subst 
 
 pub all_synced : (events : List Event) (f : Contents) → after events ≡ Open f → on_disk (file_of (after (Syncs ∷ events))) ≡ seen f
 all_synced events f is = ap (λ (s : State). on_disk (file_of (step Syncs s))) is ∙ take_own (seen f)
+
+pub keeps_given : (events later : List Event) (before : Contents) → after events ≡ Open before → AreOfOpen later → (now : Contents) × (after (later ++ events) ≡ Open now) × (lines (seen now) ≡ lines (seen before) ++ given later)
+keeps_given events [] before is h = (before, is, sym (append-nil (lines (seen before))))
+keeps_given events (Opens ∷ later) before is h = absurd h
+keeps_given events (Cuts ∷ later) before is h = absurd h
+keeps_given events (Appends text are ∷ later) before is h =
+    let s = keeps_given events later before is h in
+    let f = s.0 in
+    let ready = (open_is_good (later ++ events) f s.1).1 in (
+      appends text f,
+      ap (step (Appends text are)) s.1,
+      ap lines (take_own (f.written ++ text))
+          ∙ lines_of_both f.written text ready.whole
+          ∙ ap (λ (ls : List (List ℕ)). ls ++ lines text) (ap lines (sym (seen_ready f ready)) ∙ s.2)
+          ∙ append_assoc (lines (seen before)) (given later) (lines text),
+    )
+keeps_given events (Syncs ∷ later) before is h =
+    let s = keeps_given events later before is h in (
+      syncs s.0,
+      ap (step Syncs) s.1,
+      ap lines (take_own (seen s.0)) ∙ s.2 ∙ ap (λ (ls : List (List ℕ)). lines (seen before) ++ ls) (sym (append-nil (given later))),
+    )
+keeps_given events (Crashes size ∷ later) before is h = absurd h
 
 pub opened_whole : (events : List Event) (f : Contents) → after events ≡ Closed f
     → (seen (file_of (after (Opens ∷ events))) ≡ whole (seen f)) × (on_disk (file_of (after (Opens ∷ events))) ≡ whole (seen f))

@@ -78,3 +78,12 @@ AreOfClosed (Cuts ∷ earlier) = AreOfClosed earlier
 AreOfClosed (Appends text is ∷ earlier) = ⊥
 AreOfClosed (Syncs ∷ earlier) = ⊥
 AreOfClosed (Crashes size ∷ earlier) = AreOfClosed earlier
+
+-- lines and syncs, which leave an open file open
+abbrev pub AreOfOpen : List Event → Type 0
+AreOfOpen [] = Unit {0}
+AreOfOpen (Opens ∷ earlier) = ⊥
+AreOfOpen (Cuts ∷ earlier) = ⊥
+AreOfOpen (Appends text is ∷ earlier) = AreOfOpen earlier
+AreOfOpen (Syncs ∷ earlier) = AreOfOpen earlier
+AreOfOpen (Crashes size ∷ earlier) = ⊥

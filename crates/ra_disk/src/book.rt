@@ -1,10 +1,10 @@
 ghost use Rattle.std.specs.Prelude.{◌≡◌, ◌<◌, ◌⊎◌, ◌∷◌, [], true, length, IfOk, IfErr, None};
-ghost use Rattle.ra_disk.specs.declared.error.BookError.TheVariants.{Write, Disk, Memory};
+ghost use Rattle.ra_disk.specs.declared.error.FileError.TheVariants.{Write, Disk, Memory};
 ghost use Rattle.ra_disk.specs.Lines.{whole, IsWhole};
 ghost use Rattle.ra_disk.specs.Book.{IsReady};
 ghost use Rattle.ra_disk.specs.Book.Event.{Appends, Syncs};
 
-use crate::{BookError, BookFile};
+use crate::{BookFile, FileError};
 use std::alloc::Global;
 
 const LINE_FEED: u8 = 10;
@@ -14,11 +14,11 @@ const LINE_FEED: u8 = 10;
 #[derive(Drop)]
 pub struct Book<F: BookFile> {
     file: F,
-    failed: Option<BookError>,
+    failed: Option<FileError>,
     ghost ready: { failed ≡ None → IsReady (F.BookFile.contents file) },
 }
 
-// The length of the text without what follows its last line feed. It looks at what follows alone.
+/// Returns the length of the text without what follows its last line feed. It looks at what follows alone.
 fn whole_len(text: &[u8]) -> usize
     ensures { result ≡ length (whole text.now) }
 {
@@ -32,15 +32,16 @@ fn whole_len(text: &[u8]) -> usize
 impl<F: BookFile> Book<F> {
     ghost use Rattle.ra_disk.specs.Handle.{Does, FailsToOpen, IsOpened};
 
-    /// Opens a file: cuts what follows its last line feed, a torn line, syncs the rest, and returns it as text. It takes
-    /// time by the length of the file.
+    /// Opens a file: cuts what follows its last line feed, a torn line, syncs the rest, and returns it as text. It
+    /// takes time by the length of the file.
     ///
     /// # Errors
-    /// With the file, as a crash after the cut would leave it:
-    /// - `Read` if the file can't be read, and then it is unchanged.
-    /// - `Memory` if there is no memory for its text, and then it is unchanged.
-    /// - `Disk` if it can't be cut or synced.
-    pub fn open(alloc: Global, mut file: F) -> Result<(Book<F>, Vec<u8>), (BookError, F)>
+    ///
+    /// Each comes with the file. The first that holds:
+    ///
+    /// 1. `Read`, `Memory`: the file can't be read, or there is no memory for its text. It is then unchanged.
+    /// 2. `Disk`: it can't be cut or synced. It then holds what a crash after the cut may leave.
+    pub fn open(alloc: Global, mut file: F) -> Result<(Book<F>, Vec<u8>), (FileError, F)>
         requires { F.is_unread file ≡ true }
         ensures ok { IfOk result (λ r. IsOpened file r.0 r.1.items) }
         ensures err { IfErr result (λ e. FailsToOpen F.BookFile file e) }
@@ -64,9 +65,12 @@ impl<F: BookFile> Book<F> {
     /// Appends lines, each ended by a line feed. A crash may take them until `sync`. It takes time by their length.
     ///
     /// # Errors
-    /// - The error of a call that failed before, and then the file is unchanged.
-    /// - `Write` if the file fails: it may have some of the bytes.
-    pub fn append(&mut self, lines: &[u8]) -> Result<(), BookError>
+    ///
+    /// The first that holds:
+    ///
+    /// 1. The error of a call that failed before. The file is then unchanged.
+    /// 2. `Write`: the file fails. It may have some of the bytes.
+    pub fn append(&mut self, lines: &[u8]) -> Result<(), FileError>
         requires { IsWhole lines.now }
         ensures { (are : IsWhole lines.now) → let events = Appends lines.now are ∷ [] in
             Does self.old self.new result events events Write }
@@ -82,9 +86,12 @@ impl<F: BookFile> Book<F> {
     /// Syncs the file: all lines that were appended are on the disk then.
     ///
     /// # Errors
-    /// - The error of a call that failed before, and then the file is unchanged.
-    /// - `Disk` if the file fails: a crash may take what was not synced.
-    pub fn sync(&mut self) -> Result<(), BookError>
+    ///
+    /// The first that holds:
+    ///
+    /// 1. The error of a call that failed before. The file is then unchanged.
+    /// 2. `Disk`: the file fails. A crash may take what was not synced.
+    pub fn sync(&mut self) -> Result<(), FileError>
         ensures { Does self.old self.new result (Syncs ∷ []) [] Disk }
     {
         if let Some(error) = self.failed {

@@ -1,9 +1,9 @@
 ghost use Rattle.std.specs.Prelude.{◌≡◌, ◌≤◌, ◌<◌, ◌⊎◌, ◌∷◌, ℕ, Bool, true, List, IfOk, IfErr, OnOk};
-ghost use Rattle.ra_disk.specs.declared.error.BookError.TheVariants.{Read, Write, Disk, Memory};
+ghost use Rattle.ra_disk.specs.declared.error.FileError.TheVariants.{Read, Write, Disk, Memory};
 ghost use Rattle.ra_disk.specs.Contents.{Contents, seen, IsEven, appends, cuts, syncs};
 ghost use Rattle.ra_disk.specs.Outcome.{IsCut, HasCause};
 
-use crate::BookError;
+use crate::FileError;
 use std::alloc::Global;
 
 /// The file of a book. It rests on the premise that a crash leaves what was synced, and of the rest some front.
@@ -24,9 +24,9 @@ pub trait BookFile {
     /// Returns all bytes of the file, which is read once.
     ///
     /// # Errors
-    /// - `Read` if the file can't be read.
-    /// - `Memory` if there is no memory for them.
-    fn read(&mut self, alloc: Global) -> Result<Vec<u8>, BookError>
+    ///
+    /// `Read`: the file can't be read. `Memory`: there is no memory for its bytes.
+    fn read(&mut self, alloc: Global) -> Result<Vec<u8>, FileError>
         requires { is_unread self.old ≡ true }
         ensures bytes { IfOk result (λ bytes. bytes.items ≡ seen (contents self.old)) }
         ensures err { IfErr result (λ e. ((e ≡ Read) × (faults self.old < faults self.new)) ⊎ (e ≡ Memory)) }
@@ -37,8 +37,9 @@ pub trait BookFile {
     /// Writes bytes after those that are there.
     ///
     /// # Errors
-    /// - `Write` if the file fails: it may have some of the bytes.
-    fn append(&mut self, bytes: &[u8]) -> Result<(), BookError>
+    ///
+    /// `Write`: the file fails. It may have some of the bytes.
+    fn append(&mut self, bytes: &[u8]) -> Result<(), FileError>
         requires { IsEven (contents self.old) }
         ensures ok { OnOk result (contents self.new ≡ appends bytes.now (contents self.old)) }
         ensures err { IfErr result (λ e. (e ≡ Write)
@@ -49,8 +50,9 @@ pub trait BookFile {
     /// Cuts the file to a size. Until a sync, a crash may bring back what was cut.
     ///
     /// # Errors
-    /// - `Disk` if the file fails.
-    fn cut(&mut self, size: usize) -> Result<(), BookError>
+    ///
+    /// `Disk`: the file fails.
+    fn cut(&mut self, size: usize) -> Result<(), FileError>
         requires { size ≤ (contents self.old).size }
         ensures ok { OnOk result (contents self.new ≡ cuts size (contents self.old)) }
         ensures err { IfErr result (λ e. (e ≡ Disk) × IsCut (cuts size (contents self.old)) (contents self.new)) }
@@ -60,8 +62,9 @@ pub trait BookFile {
     /// Puts what was written on the disk.
     ///
     /// # Errors
-    /// - `Disk` if the file fails.
-    fn sync(&mut self) -> Result<(), BookError>
+    ///
+    /// `Disk`: the file fails.
+    fn sync(&mut self) -> Result<(), FileError>
         ensures ok { OnOk result (contents self.new ≡ syncs (contents self.old)) }
         ensures err { IfErr result (λ e. (e ≡ Disk) × IsCut (contents self.old) (contents self.new)) }
         ensures past { past self.new ≡ contents self.old ∷ past self.old }

@@ -5,7 +5,7 @@ ghost use Rattle.ra_disk.specs.Contents.{seen};
 ghost use Rattle.ra_disk.specs.Calls.{opened, held, held_before, failures};
 
 use crate::record::Record;
-use crate::{BookError, BookFile};
+use crate::{BookFile, FileError};
 use std::alloc::Global;
 use std::fs;
 use std::io::Write;
@@ -55,15 +55,15 @@ impl BookFile for DiskFile {
 
     ghost faults = { λ f. failures f.record.calls };
 
-    fn read(&mut self, _alloc: Global) -> Result<Vec<u8>, BookError> {
+    fn read(&mut self, _alloc: Global) -> Result<Vec<u8>, FileError> {
         match self.found.take() {
             Some(bytes) => Ok(bytes),
             // Its requirement keeps this from happening.
-            None => Err(BookError::Memory),
+            None => unreachable!(),
         }
     }
 
-    fn append(&mut self, bytes: &[u8]) -> Result<(), BookError> {
+    fn append(&mut self, bytes: &[u8]) -> Result<(), FileError> {
         self.found = None;
         match self.file.write_all(bytes) {
             Ok(()) => {
@@ -72,12 +72,12 @@ impl BookFile for DiskFile {
             }
             Err(_) => {
                 self.record.note(&[APPENDED, 0, 0], bytes);
-                Err(BookError::Write)
+                Err(FileError::Write)
             }
         }
     }
 
-    fn cut(&mut self, size: usize) -> Result<(), BookError> {
+    fn cut(&mut self, size: usize) -> Result<(), FileError> {
         self.found = None;
         match self.file.set_len(size as u64) {
             Ok(()) => {
@@ -86,12 +86,12 @@ impl BookFile for DiskFile {
             }
             Err(_) => {
                 self.record.note(&[CUT, size as u64, 0], &[]);
-                Err(BookError::Disk)
+                Err(FileError::Disk)
             }
         }
     }
 
-    fn sync(&mut self) -> Result<(), BookError> {
+    fn sync(&mut self) -> Result<(), FileError> {
         self.found = None;
         match self.file.sync_data() {
             Ok(()) => {
@@ -100,7 +100,7 @@ impl BookFile for DiskFile {
             }
             Err(_) => {
                 self.record.note(&[SYNCED, 0, 0], &[]);
-                Err(BookError::Disk)
+                Err(FileError::Disk)
             }
         }
     }

@@ -4,7 +4,7 @@ ghost use Rattle.ra_disk.specs.Calls.{held, held_before, failures};
 
 use crate::disk_file::{APPENDED, CRASHED, CUT, OPENED, SYNCED};
 use crate::record::Record;
-use crate::{BookError, BookFile};
+use crate::{BookFile, FileError};
 use std::alloc::Global;
 
 /// A file in memory that can be made to crash, for tests.
@@ -37,15 +37,15 @@ impl MemoryFile {
         }
     }
 
-    /// The bytes that a read returns.
+    /// Returns the bytes that a read returns.
     pub fn bytes(&self) -> &[u8]
         ensures { result.now ≡ seen (memory_contents self.now) }
     {
         &self.bytes
     }
 
-    /// Crashes: so many bytes are left, but no more than there are, and no fewer than were synced. The file may be opened
-    /// again.
+    /// Crashes: `size` bytes are left, but no more than there are, and no fewer than were synced. The file may be
+    /// opened again.
     pub fn crash(&mut self, size: usize)
         ensures crashed { let old = memory_contents self.old in
             memory_contents self.new ≡ crashes (min size (length (seen old))) old }
@@ -67,12 +67,12 @@ impl BookFile for MemoryFile {
 
     ghost faults = { λ f. failures f.record.calls };
 
-    fn read(&mut self, alloc: Global) -> Result<Vec<u8>, BookError> {
+    fn read(&mut self, alloc: Global) -> Result<Vec<u8>, FileError> {
         self.is_unread = false;
-        self.bytes.to_vec(alloc).map_err(|_| BookError::Memory)
+        self.bytes.to_vec(alloc).map_err(|_| FileError::Memory)
     }
 
-    fn append(&mut self, bytes: &[u8]) -> Result<(), BookError> {
+    fn append(&mut self, bytes: &[u8]) -> Result<(), FileError> {
         self.is_unread = false;
         match self.bytes.extend_from_slice(bytes) {
             Ok(()) => {
@@ -82,12 +82,12 @@ impl BookFile for MemoryFile {
             Err(_) => {
                 self.record.note(&[APPENDED, 0, 0], bytes);
                 self.bytes.truncate(self.kept);
-                Err(BookError::Write)
+                Err(FileError::Write)
             }
         }
     }
 
-    fn cut(&mut self, size: usize) -> Result<(), BookError> {
+    fn cut(&mut self, size: usize) -> Result<(), FileError> {
         self.is_unread = false;
         self.record.note(&[CUT, size as u64, 1], &[]);
         self.bytes.truncate(size);
@@ -95,7 +95,7 @@ impl BookFile for MemoryFile {
         Ok(())
     }
 
-    fn sync(&mut self) -> Result<(), BookError> {
+    fn sync(&mut self) -> Result<(), FileError> {
         self.is_unread = false;
         self.record.note(&[SYNCED, 0, 1], &[]);
         self.kept = self.bytes.len();

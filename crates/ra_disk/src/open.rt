@@ -10,7 +10,7 @@ use std::{error, fmt};
 /// Why a book's file can't be opened.
 #[derive(Clone, Copy, Debug)]
 pub enum OpenError {
-    /// A call of the operating system failed, or there is something else than a file.
+    /// A call of the operating system failed, or there is something other than a file.
     Io(io::Error),
     /// Another process has the book open.
     Busy,
@@ -31,7 +31,7 @@ impl From<TryLockError> for OpenError {
     fn from(error: TryLockError) -> OpenError {
         match error {
             TryLockError::WouldBlock => OpenError::Busy,
-            TryLockError::Error(error) => OpenError::Io(error),
+            TryLockError::Error(error) => OpenError::from(error),
         }
     }
 }
@@ -49,24 +49,31 @@ impl fmt::Display for OpenError {
 impl error::Error for OpenError {}
 
 impl DiskFile {
-    /// Opens the file at the path, which is made if it is missing, and reads it. Until it is dropped, each other opening
-    /// of it is refused. It takes time by the length of the file.
+    /// Opens the file at the path, which is made if it is missing, syncs it with its folder, and reads it. Until it is
+    /// dropped, each other opening of it is refused. It takes time by the length of the file. What it does before it
+    /// reads no clause says: that the file is locked and on the disk then, with its name, is trusted.
     ///
     /// # Errors
-    /// - `Io` if a call of the operating system fails, or there is something else than a file.
-    /// - `Busy` if another process or handle has it open.
-    /// - `Memory` if there is no memory for what it holds.
+    ///
+    /// The first that holds:
+    ///
+    /// 1. `Io`: it can't be opened or made, or there is something other than a file.
+    /// 2. `Busy`: another process or handle has it open.
+    /// 3. `Io`: it can't be locked, synced or read.
+    ///
+    /// In place of `Io`, `Memory` comes if the call failed for lack of memory.
     pub fn open(rt: &HostRuntime, path: &str) -> Result<DiskFile, OpenError>
         ensures { IfOk result (λ file. is_unread_file file ≡ true) }
     {
         let mut file = open_locked(rt, path)?;
-        settle(rt, &file, path)?;
+        sync_whole(rt, &file, path)?;
         let mut found = Vec::new(rt.alloc());
         file.read_to_end(&mut found)?;
         Ok(DiskFile::new(file, found))
     }
 }
 
+/// Opens the file at the path, which is made if it is missing, and locks it.
 fn open_locked(rt: &HostRuntime, path: &str) -> Result<File, OpenError> {
     let mut file = OpenOptions::new()
         .read(true)
@@ -84,9 +91,9 @@ fn open_locked(rt: &HostRuntime, path: &str) -> Result<File, OpenError> {
     Ok(file)
 }
 
-// Syncs the file and its folder, and drops the kernel's copies of its pages: a failed sync of an earlier process may
-// have left them other than the disk has them.
-fn settle(rt: &HostRuntime, file: &File, path: &str) -> io::Result<()> {
+/// Syncs the file and its folder, and asks the kernel to drop its copies of the file's pages: a failed sync of an
+/// earlier process may have left them other than the disk has them.
+fn sync_whole(rt: &HostRuntime, file: &File, path: &str) -> io::Result<()> {
     file.sync_all()?;
     let advised = libc::posix_fadvise(file.as_raw_fd(), 0, 0, libc::POSIX_FADV_DONTNEED);
     if advised != 0 {
