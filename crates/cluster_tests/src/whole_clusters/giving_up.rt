@@ -81,6 +81,17 @@ fn race<R: Wait + Threads + Sync + Abort>(
         (came, gone)
     };
     assert_same(rt, at, &gone, &Ok(()));
+    was_let_in(rt, alloc, cluster, at, came)
+}
+
+/// Returns whether client 2 was let in, by what it got. Asserts that nothing is left behind, after it has left the name.
+fn was_let_in<R: Wait + Abort>(
+    rt: &R,
+    alloc: Global,
+    cluster: &Cluster<OpenGate>,
+    at: At<'_>,
+    came: Result<Option<Grant>, CallError>,
+) -> bool {
     match came {
         Ok(Some(grant)) => {
             let holder = Some(grant.entry.client);
