@@ -15,7 +15,8 @@ use std::{env, io};
 ///
 /// # Errors
 ///
-/// `Usage`: an argument is not UTF-8. `Memory`: there is none for them.
+/// 1. `Memory`: memory ran out for them.
+/// 2. `Usage`: they cannot be read, for example since one is not UTF-8.
 fn arguments(rt: &HostRuntime) -> Result<Vec<String>, CommandFault> {
     match env::args(rt) {
         Ok(arguments) => arguments.collect(rt.alloc()).or(Err(CommandFault::Memory)),

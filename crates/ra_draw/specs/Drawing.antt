@@ -65,7 +65,7 @@ abbrev pub DrawsMarks : Part → List ℕ → (before after : Option (List ℕ))
 DrawsMarks part input before after (log.Valid requests grants) = DrawsPicture part input before after
 DrawsMarks part input before after (log.Invalid line why) = Appends before after []
 
--- What came of an attempt to draw a part of an input, for any kind of text. A kind has its verdicts on an input,
+-- The outcome of an attempt to draw a part of an input, for any kind of text. A kind has its verdicts on an input,
 -- `valid_of` and `invalid_of` make those on one that is of the kind and on one that is not, and `Shows` says what is
 -- drawn for each. `old` and `new` are what is left in the reader before and after the attempt, and `before` and `after`
 -- what the writer contains, if they tell. `Untouched` says that the writer is as before, and `kept` is the text that
@@ -96,12 +96,12 @@ pub record DrawsPart {V Why : Type 0} (IsVerdictOn : List ℕ → V → Type 0) 
       × IsVerdictOn input (valid_of m n) × IsDrawable part input × IsPicture part input (prefix ++ rest) × (rest ≢ [])
       × Appends before after prefix
 
--- what came of an attempt to draw a trace
+-- the outcome of an attempt to draw a trace
 abbrev pub DrawsTrace : Part → (old new before after : Option (List ℕ)) → (Untouched : Type 0) → (kept : List ℕ)
     → Result Verdict DrawError → Type 0
 DrawsTrace = DrawsPart IsVerdict Valid Invalid Draws
 
--- what came of an attempt to draw a mark log
+-- the outcome of an attempt to draw a mark log
 abbrev pub DrawsLog : Part → (old new before after : Option (List ℕ)) → (Untouched : Type 0) → (kept : List ℕ)
     → Result MarksVerdict DrawError → Type 0
 DrawsLog = DrawsPart IsMarksVerdict log.Valid log.Invalid DrawsMarks

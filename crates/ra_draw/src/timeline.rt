@@ -24,7 +24,7 @@ use ra_trace::Line;
 use ra_world::{MarklessWorld, Step};
 use std::alloc::Global;
 
-/// The most lines that tell what comes of a step: a REPLY and a REQUEST to each other node, and three marks. A client
+/// The most sends and marks of a step: a REPLY and a REQUEST to each other node, and three marks. A client
 /// leaves, and the next one of its node gets a number and enters.
 const MOST_TOLD: u32 = 129;
 
@@ -69,7 +69,7 @@ fn world_of(alloc: Global, text: &[u8]) -> Result<Option<MarklessWorld>, Memory>
 }
 
 impl Timeline {
-    /// Makes that of a text of which nothing was followed yet.
+    /// Makes the timeline of a text before its first line.
     pub fn new(alloc: Global) -> Timeline
         ensures rows { result.rows.items ≡ [] }
         ensures nodes { result.nodes ≡ 1 }

@@ -222,7 +222,7 @@ pub fn print_run(
     }
 }
 
-/// Does as [`perform`], and writes what came of the script in a format:
+/// Does as [`perform`], and writes the run in a format:
 ///
 /// - `Lines`: the lines of the report, as [`perform`] does.
 /// - `Trace`: the trace, as [`perform_trace`] does, at its cost.

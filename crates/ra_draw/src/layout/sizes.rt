@@ -27,7 +27,7 @@ pub const BOTTOM_MARGIN: u64 = 24;
 /// The least width of a page, which is that of the legend.
 pub const LEGEND_WIDTH: u64 = 860;
 
-/// The most nodes of which the lanes are wide enough for labels.
+/// The most nodes whose lanes are wide enough for labels.
 pub const MOST_WIDE: u16 = 12;
 
 /// The height of a row if lanes are wide, and otherwise.
@@ -70,7 +70,7 @@ pub const UNDER_WAY_ROWS: u32 = 64;
 /// The letters of a label beside the number and the name: `request`, `deferred`, a mode and spaces.
 pub const LABEL_LETTERS: usize = 22;
 
-/// About the width of a letter of a label, of which some are wider.
+/// About the width of a letter of a label. Some are wider.
 pub const MEAN_LETTER: u64 = 6;
 
 /// The width of nearly each letter of a label at most.

@@ -26,7 +26,7 @@ impl<'a, W: Write> Target<'a, W> {
         }
     }
 
-    /// Writes bytes, of which there are some, and returns how many the writer took, 1 or more. It does not allocate.
+    /// Writes bytes, at least one, and returns how many the writer took, 1 or more. It does not allocate.
     ///
     /// # Errors
     ///
