@@ -149,6 +149,8 @@ class History:
             if process not in NEMESIS and CALL.search(function):
                 raise Refused("its function is neither acquire nor release")
             return
+        if type(process) not in (str, int):
+            raise Refused("its process is no number and no word")
         if time is not None:
             if int(time) < self.time:
                 raise Refused("its time is before that of an earlier line")
@@ -170,8 +172,6 @@ class History:
         return self.locks[key]
 
     def call(self, line, process, function, value):
-        if type(process) not in (str, int):
-            raise Refused("its process is no number and no word")
         if process in self.calls:
             raise Refused("the outcome of the last call of its process is not known")
         lock = self.lock_of(value)
