@@ -164,7 +164,11 @@ said_again l = min 1000 (l.sent - l.acknowledged)
 
 -- ---- The book
 
--- it makes a frame for the other host
+-- it may make a frame for the other host: it is ready, and a number is left
+abbrev pub may_make : Link → Bool
+may_make l = l.ready && nat_lt l.made greatest
+
+-- it makes a frame
 abbrev pub makes : Link → Link
 makes l = record l { made = l.made + 1 }
 

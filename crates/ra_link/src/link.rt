@@ -1,7 +1,7 @@
 ghost use Rattle.std.specs.Prelude.{◌≡◌, ◌↔◌, true, false, IsTrue, IsOk, IsErr, IsErrOf};
 ghost use Rattle.ra_link.specs.Link.{greatest, is_nonce, started, asks, hello_of, hears_hello, welcome_of};
 ghost use Rattle.ra_link.specs.Link.{welcome_accuses, hears_welcome, ack_accuses, hears_ack, ack_of, old_of};
-ghost use Rattle.ra_link.specs.Link.{old_accuses, heard_frame, hears_frame, frame_of, said_again, makes, syncs};
+ghost use Rattle.ra_link.specs.Link.{old_accuses, heard_frame, hears_frame, frame_of, said_again, may_make, makes, syncs};
 ghost use Rattle.ra_link.specs.Link.{is_answer, is_above, shows_old, may_replay, replay_accuses, replays};
 
 use crate::{MakeError, Message, OldBook};
@@ -266,6 +266,7 @@ impl Link {
     /// 1. `NotReady`: the host is not ready.
     /// 2. `Full`: 2^64-1 frames were made.
     pub fn make(&mut self) -> Result<(), MakeError>
+        ensures ok { IsOk result ↔ IsTrue (may_make self.old) }
         ensures link { IsOk result → self.new ≡ makes self.old }
         ensures not_ready { IsErrOf result MakeError.NotReady ↔ (self.old.ready ≡ false) }
         ensures full { IsErrOf result MakeError.Full ↔ ((self.old.ready ≡ true) × (self.old.made ≡ greatest)) }
