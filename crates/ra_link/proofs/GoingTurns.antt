@@ -7,7 +7,7 @@ use Rattle.std.proofs.lemmas.List.{take-append-le, length-take, length_push}
 use Rattle.ra_link.specs.declared.message.Message.{Message}
 use Rattle.ra_link.specs.declared.message.Message.TheVariants.{Hello, Welcome, Frame, Ack, Old}
 use Rattle.ra_link.specs.declared.link.Link.{Link}
-use Rattle.ra_link.specs.Link.{greatest, asks, hears_hello, hears_welcome, hears_frame, hears_ack, is_nonce, is_open, is_answer, is_above, is_due, is_next, is_ack, shows_old, adopts, replays, makes, hello_of, welcome_of, ack_to, ack_of, old_of, may_say, frame_of}
+use Rattle.ra_link.specs.Link.{greatest, asks, hears_hello, hears_welcome, hears_frame, hears_ack, is_nonce, is_open, is_answer, is_above, is_due, is_next, is_ack, shows_old, adopts, may_replay, replays, makes, hello_of, welcome_of, ack_to, ack_of, old_of, may_say, frame_of}
 use Rattle.ra_link.specs.Pair.{Host, Packet, Event, silent, packets, framed, ends, linked, was_used, begins, hears, hears_packet, replays_book, makes_frame, syncs_book, crashes, acts, rests, turn, count_in}
 use Rattle.ra_link.specs.Pair.Event.{Start, Connects, Comes, Replays, Makes, Syncs, Says_hello, Says_ack, Says_old, Says_frame, Crashes}
 use Rattle.ra_link.specs.PutBack.{puts_back}
@@ -290,13 +290,20 @@ replays_goes : (x : Host) (back : List Packet) → IsBook x → x.up ≡ true �
 replays_goes x back k up =
     let b = k.link up in
     let all = length x.sent in
-    cond_both (not x.link.ready && x.link.confirmed) (cond (nat_lt all x.link.acknowledged) (ends x) (silent (linked x (replays x.link all)))) (silent x) (Goes x back)
+    let may = may_replay x.link in
+    let less = nat_lt all x.link.acknowledged in
+    cond_both (may && less) (ends x) (cond may (silent (linked x (replays x.link all))) (silent x)) (Goes x back)
+    (λ e.
+    let both = and_parts may less e in
+    let parts = and_parts (not x.link.ready) x.link.confirmed both.0 in
+    ends_goes x back k
+    (inr (inr (record { up = up; unready = not-true x.link.ready parts.0; confirmed = parts.1; less = ltb-true all x.link.acknowledged both.1 }))))
+    (λ not_less.
+    cond_both may (silent (linked x (replays x.link all))) (silent x) (Goes x back)
     (λ e.
     let parts = and_parts (not x.link.ready) x.link.confirmed e in
     let before : x.link.ready ≡ false = not-true x.link.ready parts.0 in
-    cond_both (nat_lt all x.link.acknowledged) (ends x) (silent (linked x (replays x.link all))) (Goes x back)
-    (λ less. ends_goes x back k (inr (inr (record { up = up; unready = before; confirmed = parts.1; less = ltb-true all x.link.acknowledged less }))))
-    (λ enough.
+    let enough : less ≡ false = sym (ap (λ m. m && less) e) ∙ not_less in
     record {
       book = record {
         unaccused = k.unaccused;
@@ -323,8 +330,8 @@ replays_goes x back k up =
       down = λ d. absurd (true≢false (sym up ∙ d));
       accused = λ a. inl a;
       says = tt;
-    }))
-    (λ _. stays_up x back k up)
+    })
+    (λ _. stays_up x back k up))
 
 makes_goes : (x : Host) (back : List Packet) → IsBook x → x.up ≡ true → (frame : List ℕ) → Goes x back (makes_frame x frame)
 makes_goes x back k up frame =

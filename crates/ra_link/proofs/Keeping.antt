@@ -6,7 +6,7 @@ use Rattle.std.proofs.lemmas.Bool.{cond_both}
 use Rattle.std.proofs.lemmas.List.{take-take, take-append-le}
 use Rattle.ra_link.specs.declared.message.Message.{Message}
 use Rattle.ra_link.specs.declared.message.Message.TheVariants.{Hello, Welcome, Frame, Ack, Old}
-use Rattle.ra_link.specs.Link.{greatest, hears_hello, hears_welcome, hears_frame, hears_ack, is_answer, is_above, is_next, is_ack, replays, makes}
+use Rattle.ra_link.specs.Link.{greatest, hears_hello, hears_welcome, hears_frame, hears_ack, is_answer, is_above, is_next, is_ack, may_replay, replays, makes}
 use Rattle.ra_link.specs.Pair.{Host, Packet, Event, silent, ends, linked, was_used, begins, hears, hears_packet, replays_book, makes_frame, crashes, acts, rests, turn}
 use Rattle.ra_link.specs.Pair.Event.{Start, Connects, Comes, Replays, Makes, Syncs, Says_hello, Says_ack, Says_old, Says_frame, Crashes}
 use Rattle.ra_link.proofs.Going.{IsBook}
@@ -44,10 +44,10 @@ packet_keeps x (Some p) = hears_keeps x p.message p.frame
 replays_keeps : (x : Host) → Keeps x (replays_book x).host
 replays_keeps x =
     let z = linked x (replays x.link (length x.sent)) in
-    cond_both (not x.link.ready && x.link.confirmed) (cond (nat_lt (length x.sent) x.link.acknowledged) (ends x) (silent z)) (silent x) (λ t. Keeps x t.host)
-    (λ _. cond_both (nat_lt (length x.sent) x.link.acknowledged) (ends x) (silent z) (λ t. Keeps x t.host)
-    (λ _. keeps_same x (ends x).host refl refl refl) (λ _. keeps_same x z refl refl refl))
-    (λ _. keeps_same x x refl refl refl)
+    let may = may_replay x.link in
+    cond_both (may && nat_lt (length x.sent) x.link.acknowledged) (ends x) (cond may (silent z) (silent x)) (λ t. Keeps x t.host)
+    (λ _. keeps_same x (ends x).host refl refl refl)
+    (λ _. cond_both may (silent z) (silent x) (λ t. Keeps x t.host) (λ _. keeps_same x z refl refl refl) (λ _. keeps_same x x refl refl refl))
 
 makes_keeps : (x : Host) → IsBook x → (frame : List ℕ) → Keeps x (makes_frame x frame).host
 makes_keeps x k frame =

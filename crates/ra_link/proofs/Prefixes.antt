@@ -2,11 +2,11 @@
 use Rattle.std.proofs.Common.{◌≡◌, ◌≤◌, ◌<◌, ◌-◌, inl, inr, ℕ, List, [], ◌∷◌, ◌++◌, true, false, not, ◌&&◌, cond, length, get_or, take, drop, refl, sym, ◌∙◌, ap, Option, Some, None, arith}
 use Rattle.std.specs.Prelude.{nat_lt}
 use Rattle.std.specs.List.{AllByRecursion, slice_get}
-use Rattle.std.proofs.lemmas.Bool.{cases_Bool, lt-ltb, true≢false, false≢true}
+use Rattle.std.proofs.lemmas.Bool.{and_from, cases_Bool, lt-ltb, true≢false, false≢true}
 use Rattle.std.proofs.lemmas.List.{take-take, take-append-drop, take_all}
 use Rattle.ra_link.specs.declared.message.Message.{Message}
 use Rattle.ra_link.specs.declared.message.Message.TheVariants.{Hello, Welcome, Frame, Ack, Old}
-use Rattle.ra_link.specs.Link.{replays}
+use Rattle.ra_link.specs.Link.{may_replay, replays}
 use Rattle.ra_link.specs.Pair.{Host, Packet, Event, Turn, Pair, Who, silent, ends, linked, hears_packet, replays_book, acts, rests, turn, happens, new_host, new_pair, this, other, said_by, IsPrefixOf}
 use Rattle.ra_link.specs.Pair.Event.{Comes, Replays}
 use Rattle.ra_link.specs.Pair.Who.{One, Two}
@@ -348,9 +348,10 @@ nothing_is_missing all who up c other_up d e =
 ends_at_replay : (a : Host) → a.link.confirmed ≡ true → a.link.ready ≡ false → length a.sent < a.link.acknowledged → replays_book a ≡ ends a
 ends_at_replay a c f less =
     let l = a.link in
-    let lacks : Turn = cond (nat_lt (length a.sent) l.acknowledged) (ends a) (silent (linked a (replays l (length a.sent)))) in
-    let may : (not l.ready && l.confirmed) ≡ true = ap (λ r. not r && l.confirmed) f ∙ c in
-    ap (λ t. cond t lacks (silent a)) may ∙ ap (λ t. cond t (ends a) (silent (linked a (replays l (length a.sent))))) (lt-ltb (length a.sent) l.acknowledged less)
+    let lacks = nat_lt (length a.sent) l.acknowledged in
+    let both : (may_replay l && lacks) ≡ true =
+    and_from (may_replay l) lacks (ap (λ r. not r && l.confirmed) f ∙ c) (lt-ltb (length a.sent) l.acknowledged less) in
+    ap (λ t. cond t (ends a) (cond (may_replay l) (silent (linked a (replays l (length a.sent)))) (silent a))) both
 
 acts_at : (back : List Packet) (a : Host) (e : Event) → a.up ≡ true → turn back a e ≡ acts back a e
 acts_at back a e up = ap (λ t. cond t (acts back a e) (rests a e)) up

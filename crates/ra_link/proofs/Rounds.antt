@@ -4,7 +4,7 @@ use Rattle.std.specs.Prelude.{nat_lt}
 use Rattle.std.proofs.lemmas.Bool.{cases_Bool, cond_both, and_from, and_right, eq-eqb, both_ways, false≢true, and_cases, eqb-false}
 use Rattle.ra_link.specs.declared.message.Message.TheVariants.{Ack}
 use Rattle.ra_link.specs.declared.link.Link.{Link}
-use Rattle.ra_link.specs.Link.{greatest, asks, hears_hello, hears_frame, hears_ack, is_nonce, is_above, is_due, is_next, is_ack, replays, syncs, ack_to, said_again}
+use Rattle.ra_link.specs.Link.{greatest, asks, hears_hello, hears_frame, hears_ack, is_nonce, is_above, is_due, is_next, is_ack, may_replay, replays, syncs, ack_to, said_again}
 use Rattle.ra_link.specs.Pair.{Host, Packet, Event, Turn, Pair, Who, silent, says, ends, linked, replays_book, syncs_book, acts, rests, turn, happens, run}
 use Rattle.ra_link.specs.Pair.Event.{Start, Connects, Comes, Replays, Makes, Syncs, Says_hello, Says_ack, Says_old, Says_frame, Crashes}
 use Rattle.ra_link.specs.Pair.Who.{One, Two}
@@ -353,13 +353,14 @@ replays_one p h confirmed =
     let a = p.one in
     let l = p.one.link in
     let all = length p.one.sent in
+    let may = may_replay l in
     let facts : HasEnded (turn p.to_one a Replays).host ⊎ Readied a (turn p.to_one a Replays) =
     cond_both a.up (replays_book a) (silent a) (λ t. HasEnded t.host ⊎ Readied a t)
-    (λ up. cond_both (not l.ready && l.confirmed) (cond (nat_lt all l.acknowledged) (ends a) (silent (linked a (replays l all)))) (silent a) (λ t. HasEnded t.host ⊎ Readied a t)
-    (λ _. cond_both (nat_lt all l.acknowledged) (ends a) (silent (linked a (replays l all))) (λ t. HasEnded t.host ⊎ Readied a t)
+    (λ up. cond_both (may && nat_lt all l.acknowledged) (ends a) (cond may (silent (linked a (replays l all))) (silent a)) (λ t. HasEnded t.host ⊎ Readied a t)
     (λ _. inl (record { down = refl; accused = refl }))
-    (λ _. inr (h.up_one, refl, refl, refl, refl, refl, refl)))
-    (λ e. inr (h.up_one, refl, refl, ready_since l.ready l.confirmed confirmed e, refl, refl, refl)))
+    (λ _. cond_both may (silent (linked a (replays l all))) (silent a) (λ t. HasEnded t.host ⊎ Readied a t)
+    (λ _. inr (h.up_one, refl, refl, refl, refl, refl, refl))
+    (λ e. inr (h.up_one, refl, refl, ready_since l.ready l.confirmed confirmed e, refl, refl, refl))))
     (λ down. absurd (both_ways a.up down h.up_one)) in
     elim facts [
       | inl ended ↦ inl (inl ended)

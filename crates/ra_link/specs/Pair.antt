@@ -1,10 +1,10 @@
 -- Two hosts with their books and disks, and the network between them: all that was ever said, and any of it may come at
 -- any time, and again.
-use Rattle.std.specs.Prelude.{◌≡◌, ℕ, ◌-◌, ◌==◌, Bool, true, false, ◌||◌, if◌then◌else◌, Option, Some, None, List, [], ◌∷◌, ◌++◌, length, get_or, take, max, nat_lt, slice_get}
+use Rattle.std.specs.Prelude.{◌≡◌, ℕ, ◌-◌, ◌==◌, Bool, true, false, ◌||◌, if◌then◌else◌, Option, Some, None, List, [], ◌∷◌, ◌++◌, length, get_or, take, max, slice_get}
 use Rattle.ra_link.specs.declared.message.Message.{Message}
 use Rattle.ra_link.specs.declared.message.Message.TheVariants.{Hello, Welcome, Frame, Ack, Old}
 use Rattle.ra_link.specs.declared.link.Link.{Link}
-use Rattle.ra_link.specs.Link.{started, asks, hello_of, hears_hello, welcome_of, welcome_accuses, hears_welcome, ack_accuses, hears_ack, old_accuses, ack_of, old_of, is_next, hears_frame, frame_of, may_make, makes, syncs, may_replay, replays}
+use Rattle.ra_link.specs.Link.{started, asks, hello_of, hears_hello, welcome_of, welcome_accuses, hears_welcome, ack_accuses, hears_ack, old_accuses, ack_of, old_of, is_next, hears_frame, frame_of, may_make, makes, syncs, may_replay, replay_accuses, replays}
 
 -- One of the two hosts. `sent` are the frames in its book that its node has sent to the other host, and `taken` those
 -- that it has taken from it. The first `sent_kept` and `taken_kept` of them are on its disk; a crash may lose the
@@ -109,11 +109,9 @@ hears_packet h (Some p) = hears h p.message p.frame
 -- ends instead.
 abbrev pub replays_book : Host → Turn
 replays_book h =
-    if may_replay h.link
-    then (if nat_lt (length h.sent) h.link.acknowledged
+    if replay_accuses h.link (length h.sent)
     then ends h
-    else silent (linked h (replays h.link (length h.sent))))
-    else silent h
+    else (if may_replay h.link then silent (linked h (replays h.link (length h.sent))) else silent h)
 
 -- its node sends a frame to the other host, once it is ready
 abbrev pub makes_frame : Host → List ℕ → Turn
