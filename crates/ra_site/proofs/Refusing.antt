@@ -1,5 +1,5 @@
 -- A refusal of a book that a site passes on.
-use Rattle.std.proofs.Common.{◌≡◌, Result, Ok, Err, sym, ◌∙◌}
+use Rattle.std.proofs.Common.{◌≡◌, Result, Ok, Err, sym, ap, ◌∙◌}
 use Rattle.std.specs.Prelude.{IsErrOf, IsErrAnd}
 use Rattle.ra_book.specs.declared.error.BookError.{BookError}
 use Rattle.ra_site.specs.declared.site.SiteError.{SiteError}
@@ -15,6 +15,10 @@ same_cause e why (Ok v) passed is = absurd passed
 same_cause {X} e why (Err x) passed is =
     let same : Refused e ≡ Refused why = sym passed ∙ one_error {X = X} x (Refused why) is in
     cc
+
+-- it has no cause that the book never has
+pub not_refused : {T X : Type 0} (e why : BookError) (r : Result X SiteError) → IsErrAnd r (λ x. x ≡ Refused e) → (IsErrOf {T = T} (Err e) why → ⊥) → IsErrOf r (Refused why) → ⊥
+not_refused e why r passed never is = never (ap (λ (x : BookError). Err x) (same_cause e why r passed is))
 
 -- nor is it `Cancelled`
 pub not_cancelled : {X : Type 0} (e : BookError) (r : Result X SiteError) → IsErrAnd r (λ x. x ≡ Refused e) → IsNotCancelled r

@@ -4,13 +4,13 @@ pub mod book_room;
 pub mod gate;
 
 ghost use Rattle.std.specs.Prelude.{◌≡◌, ◌↔◌, ◌<◌, ◌≤◌, true, false, [], All, vec_len, vec_capacity};
-ghost use Rattle.std.specs.Prelude.{IfOk, IfSome, IfNone, IsNone, IsErrOf, OnOk};
+ghost use Rattle.std.specs.Prelude.{IfOk, IfSome, IsNone, IsErrOf};
 ghost use Rattle.ra_stamp.specs.NodeId.{IsNodeNumber};
 ghost use Rattle.ra_site.specs.Sites.{sites_to};
 
 use crate::cluster::all_sites::{make_sites, stop_all};
 use crate::cluster::book_room::BookRoom;
-use crate::{Book, Gate, Grant, Inbox, NewPostError, Post, Site, SiteError, Stop};
+use crate::{Book, BookError, Gate, Grant, Inbox, NewPostError, Post, Site, SiteError, Stop};
 use ra_stamp::{Memory, Mode, Name, NodeId};
 use std::alloc::Global;
 use std::marker::Model;
@@ -106,8 +106,7 @@ impl<G: Gate + Drop> Cluster<G> {
     ghost use Rattle.ra_book.specs.Book.{HasHistory};
     ghost use Rattle.ra_book.specs.Settled.{IsCluster, start_of};
     ghost use Rattle.ra_site.specs.ClientGrant.{IsGrantOf, WasGiven};
-    ghost use Rattle.ra_site.specs.Recorded.{WasGivenUp, WasGivenBack, HasForgotten};
-    ghost use Rattle.ra_site.specs.PassedOn.{AnswersUnlock};
+    ghost use Rattle.ra_site.specs.PassedOn.{AnswersEnding};
     ghost use Rattle.ra_site.specs.Cluster.{MakesCluster};
     ghost use Rattle.ra_site.specs.Sites.{AreSitesWith, site_at};
 
@@ -281,7 +280,6 @@ impl<G: Gate + Drop> Cluster<G> {
     ) -> Result<Grant, CallError>
         ensures grant { IfOk result (IsGrantOf node client name mode) }
         ensures given { IfOk result WasGiven }
-        ensures cancelled { IsErrOf result (CallError.Site SiteError.Cancelled) → WasGivenUp node client name }
         ensures no_node { IsErrOf result CallError.NoNode ↔ self.now.nodes < node }
     {
         let Some((site, sites)) = self.site_among_all(node) else {
@@ -311,8 +309,6 @@ impl<G: Gate + Drop> Cluster<G> {
     ) -> Result<Option<Grant>, CallError>
         ensures grant { IfOk result (λ held. IfSome held (IsGrantOf node client name mode)) }
         ensures given { IfOk result (λ held. IfSome held WasGiven) }
-        ensures given_up { IfOk result (λ held. IfNone held (WasGivenUp node client name)) }
-        ensures cancelled { IsErrOf result (CallError.Site SiteError.Cancelled) → WasGivenUp node client name }
         ensures no_node { IsErrOf result CallError.NoNode ↔ self.now.nodes < node }
     {
         let Some((site, sites)) = self.site_among_all(node) else {
@@ -339,7 +335,7 @@ impl<G: Gate + Drop> Cluster<G> {
         client: u32,
         name: Name,
     ) -> Result<(), CallError>
-        ensures recorded { OnOk result (WasGivenUp node client name) }
+        ensures no_memory { IsErrOf result (CallError.Site (SiteError.Refused BookError.Memory)) → ⊥ }
         ensures others { IsErrOf result (CallError.Site SiteError.Cancelled) → ⊥ }
         ensures no_node { IsErrOf result CallError.NoNode ↔ self.now.nodes < node }
     {
@@ -358,7 +354,6 @@ impl<G: Gate + Drop> Cluster<G> {
     /// 1. `NoNode`: the cluster has no such node.
     /// 2. `Site`: as [`Site::forget`] says.
     pub fn forget<R: Wait>(&self, rt: &R, alloc: Global, node: NodeId) -> Result<(), CallError>
-        ensures recorded { OnOk result (HasForgotten node) }
         ensures others { IsErrOf result (CallError.Site SiteError.Cancelled) → ⊥ }
         ensures no_node { IsErrOf result CallError.NoNode ↔ self.now.nodes < node }
     {
@@ -384,7 +379,7 @@ impl<G: Gate + Drop> Cluster<G> {
         client: u32,
         name: Name,
     ) -> Result<(), CallError>
-        ensures recorded { OnOk result (WasGivenBack node client name) }
+        ensures no_memory { IsErrOf result (CallError.Site (SiteError.Refused BookError.Memory)) → ⊥ }
         ensures others { IsErrOf result (CallError.Site SiteError.Cancelled) → ⊥ }
         ensures no_node { IsErrOf result CallError.NoNode ↔ self.now.nodes < node }
     {
@@ -416,8 +411,7 @@ impl<G: Gate + Drop> Cluster<G> {
         ensures grant { IfOk result (λ held. IsGrantOf node client name mode held.grant) }
         ensures given { IfOk result (λ held. WasGiven held.grant) }
         ensures done { IfOk result (λ held. F.post does held.grant held.value) }
-        ensures unlocked { IfOk result (λ held. AnswersUnlock node client name held.unlocked) }
-        ensures cancelled { IsErrOf result (CallError.Site SiteError.Cancelled) → WasGivenUp node client name }
+        ensures unlocked { IfOk result (λ held. AnswersEnding held.unlocked) }
         ensures no_node { IsErrOf result CallError.NoNode ↔ self.now.nodes < node }
     {
         let Some((site, sites)) = self.site_among_all(node) else {
@@ -457,9 +451,7 @@ impl<G: Gate + Drop> Cluster<G> {
         ensures grant { IfOk result (λ held. IfSome held (λ h. IsGrantOf node client name mode h.grant)) }
         ensures given { IfOk result (λ held. IfSome held (λ h. WasGiven h.grant)) }
         ensures done { IfOk result (λ held. IfSome held (λ h. F.post does h.grant h.value)) }
-        ensures unlocked { IfOk result (λ held. IfSome held (λ h. AnswersUnlock node client name h.unlocked)) }
-        ensures given_up { IfOk result (λ held. IfNone held (WasGivenUp node client name)) }
-        ensures cancelled { IsErrOf result (CallError.Site SiteError.Cancelled) → WasGivenUp node client name }
+        ensures unlocked { IfOk result (λ held. IfSome held (λ h. AnswersEnding h.unlocked)) }
         ensures no_node { IsErrOf result CallError.NoNode ↔ self.now.nodes < node }
     {
         let Some((site, sites)) = self.site_among_all(node) else {

@@ -1,5 +1,5 @@
-//! What is true of the grants of a site, and of requests that ended. Each function does nothing, and its contract is
-//! the law.
+//! What is true of the grants of a site, and of requests that ended in a book. Each function does nothing, and its
+//! contract is the law.
 ghost use Rattle.std.specs.Prelude.{◌≡◌, ℕ, List};
 ghost use Rattle.ra_stamp.specs.declared.entry.Mark.TheVariants.{Entered};
 ghost use Rattle.ra_book.specs.declared.book.grant.Grant.{Grant};
@@ -31,8 +31,8 @@ pub fn given_grants_are_in_books()
     events_go_on();
 }
 
-/// A request that ended in the last event of a book is gone from the node to which the book leads: after a cancel or a
-/// leave, the client neither waits there for the name, nor is queued, nor holds it.
+/// A request that ended in the last event of a given book is gone from the node to which that book leads: after a
+/// cancel or a leave, the client neither waits there for the name, nor is queued, nor holds it.
 pub fn ended_requests_are_gone()
     ensures given_up { (node client : ℕ) (name : List ℕ) (after : NodeState)
         → (recorder : Recorder node (Cancel client name)) → LeadsTo recorder.book after

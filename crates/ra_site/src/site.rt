@@ -106,7 +106,6 @@ impl Site {
     ghost use Rattle.ra_automaton.specs.Members.{ChecksMember};
     ghost use Rattle.ra_book.specs.Book.{HasHistory};
     ghost use Rattle.ra_site.specs.ClientGrant.{IsGrantOf, WasGiven};
-    ghost use Rattle.ra_site.specs.Recorded.{WasGivenUp, WasGivenBack, HasForgotten};
     ghost use Rattle.ra_site.specs.PassedOn.{IsNotCancelled, PassesOn};
     ghost use Rattle.ra_site.specs.Handing.{IsHandedOver, OnlyTurnOrMemory};
     ghost use Rattle.ra_site.specs.Sites.{AreSitesWith, IsWholeBookOf, site_at};
@@ -177,7 +176,6 @@ impl Site {
         requires { AreSitesWith self.now sites.now }
         ensures grant { IfOk result (IsGrantOf self.now.node client name mode) }
         ensures given { IfOk result WasGiven }
-        ensures cancelled { IsErrOf result SiteError.Cancelled → WasGivenUp self.now.node client name }
     {
         let request = Request { client, name, mode };
         let ticket = self.ask(rt, alloc, &request, post, sites, gate)?;
@@ -201,7 +199,6 @@ impl Site {
         gate: &G,
     ) -> Result<(), SiteError>
         requires { AreSitesWith self.now sites.now }
-        ensures recorded { OnOk result (HasForgotten self.now.node) }
         ensures others { IsNotCancelled result }
     {
         let forgot = self.desk.lock(rt).forget(alloc, self.node, gate);
@@ -220,7 +217,8 @@ impl Site {
     ///
     /// 1. `Stopped`: the gate answered `false`. The cause is the one that the node keeps, of an earlier stop if there
     ///    was one.
-    /// 2. `Refused`: the book refused it, as [`Book::leave`] says, with `Failed` if the node was stopped before.
+    /// 2. `Refused`: the book refused it, as [`Book::leave`] says, with `Failed` if the node was stopped before. It is
+    ///    never `Memory`.
     pub fn unlock<R: Wait, G: Gate>(
         &self,
         rt: &R,
@@ -232,7 +230,7 @@ impl Site {
         gate: &G,
     ) -> Result<(), SiteError>
         requires { AreSitesWith self.now sites.now }
-        ensures recorded { OnOk result (WasGivenBack self.now.node client name) }
+        ensures no_memory { IsErrOf result (SiteError.Refused BookError.Memory) → ⊥ }
         ensures others { IsNotCancelled result }
     {
         let made = {
@@ -492,8 +490,8 @@ impl Site {
         if let Some((ticket, grant)) = &stepped.told {
             ticket.tell(rt, Ok(*grant));
         }
-        if let Some((ticket, given_up)) = &stepped.given_up {
-            ticket.tell(rt, Err(NotGranted::GivenUp(*given_up)));
+        if let Some(ticket) = &stepped.given_up {
+            ticket.tell(rt, Err(NotGranted::GivenUp));
         }
         self.send(rt, alloc, stepped.frames.as_slice(), post)
     }
@@ -525,7 +523,8 @@ impl Site {
 
     /// Returns what a call answers that was not made. If the gate stopped it, each site is stopped first.
     fn refusal<R: Wait>(&self, rt: &R, refused: SiteError, sites: &[Site]) -> SiteError
-        ensures { result ≡ SiteError.Cancelled → refused ≡ SiteError.Cancelled }
+        ensures refused { (why : BookError) → result ≡ SiteError.Refused why → refused ≡ SiteError.Refused why }
+        ensures cancelled { result ≡ SiteError.Cancelled → refused ≡ SiteError.Cancelled }
     {
         let SiteError::Stopped(stop) = refused else {
             return refused;

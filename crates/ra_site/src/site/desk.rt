@@ -13,14 +13,12 @@ ghost use Rattle.ra_book.specs.declared.book.grant.Grant as granted;
 ghost use Rattle.ra_stamp.specs.declared.entry.Mark as mark;
 ghost use Rattle.ra_site.specs.declared.site.SiteError as site;
 ghost use Rattle.ra_site.specs.ClientGrant.{Gives, WasGiven};
-ghost use Rattle.ra_site.specs.Recorded.{WasGivenUp, WasGivenBack, HasForgotten};
 ghost use Rattle.ra_site.specs.PassedOn.{IsNotCancelled};
 ghost use Rattle.ra_site.specs.Waiting.{IsWaiterFor, WaitsNot};
 ghost use Rattle.ra_site.specs.declared.site.desk.Waiter as waiting;
 ghost use Rattle.ra_site.specs.Handing.{IsAllLeft, OnlyTurnOrMemory};
 ghost use Rattle.ra_site.specs.Losses.{lost_frames};
 
-use crate::site::outcome::GivenUp;
 use crate::site::refused_frames::lost_of;
 use crate::site::request::Request;
 use crate::site::ticket::SharedTicket;
@@ -61,7 +59,7 @@ pub struct Stepped {
     /// The client to tell of a grant.
     pub told: Option<(SharedTicket, Grant)>,
     /// The client to tell that it gave up.
-    pub given_up: Option<(SharedTicket, GivenUp)>,
+    pub given_up: Option<SharedTicket>,
     ghost fit: { All Fits frames.items },
     ghost given: { ForSome told (λ t. WasGiven t.1) },
 }
@@ -185,7 +183,7 @@ impl Desk {
     /// The first that holds:
     ///
     /// 1. `Stopped` with `Gate`: the gate answered `false`.
-    /// 2. `Refused`: the book refused it, as [`Book::leave`] says.
+    /// 2. `Refused`: the book refused it, as [`Book::leave`] says, and never with `Memory`.
     pub fn leave<G: Gate>(
         &mut self,
         alloc: Global,
@@ -200,9 +198,10 @@ impl Desk {
         ensures given { IfOk result
             (λ stepped. IfSome stepped.told (λ told. Gives self.old.book self.new.book told.1)) }
         ensures err { OnErr result (self.new.book ≡ self.old.book) }
-        ensures recorded { OnOk result (WasGivenBack node client name) }
+        ensures me { OnOk result (self.old.book.me ≡ node) }
         ensures refused { (why : BookError) → IsErrOf result (site.SiteError.Refused why)
             → RefusesLeave self.old.book client name why }
+        ensures no_memory { IsErrOf result (site.SiteError.Refused BookError.Memory) → ⊥ }
         ensures others { IsNotCancelled result }
     {
         if let Some(stop) = self.halt(node, gate) {
@@ -220,7 +219,7 @@ impl Desk {
     /// The first that holds:
     ///
     /// 1. `Stopped` with `Gate`: the gate answered `false`.
-    /// 2. `Refused`: the book refused it, as [`Book::cancel`] says.
+    /// 2. `Refused`: the book refused it, as [`Book::cancel`] says, and never with `Memory`.
     pub fn cancel<G: Gate>(
         &mut self,
         alloc: Global,
@@ -235,18 +234,19 @@ impl Desk {
         ensures given { IfOk result
             (λ stepped. IfSome stepped.told (λ told. Gives self.old.book self.new.book told.1)) }
         ensures err { OnErr result (self.new.book ≡ self.old.book) }
-        ensures recorded { OnOk result (WasGivenUp node client name) }
+        ensures me { OnOk result (self.old.book.me ≡ node) }
         ensures told { IfOk result (λ stepped.
             IfNone stepped.given_up (WaitsNot client name self.old.waiters.items)) }
         ensures refused { (why : BookError) → IsErrOf result (site.SiteError.Refused why)
             → RefusesCancel self.old.book client name why }
+        ensures no_memory { IsErrOf result (site.SiteError.Refused BookError.Memory) → ⊥ }
         ensures others { IsNotCancelled result }
     {
         if let Some(stop) = self.halt(node, gate) {
             return Err(SiteError::Stopped(stop));
         }
         let posted = self.book.cancel(alloc, client, name)?;
-        let given_up = self.take_given_up(node, client, name);
+        let given_up = self.take(client, &name);
         Ok(self.stepped(posted, given_up))
     }
 
@@ -273,10 +273,14 @@ impl Desk {
             self.new.book) }
         ensures given { IfOk result
             (λ stepped. IfSome stepped.told (λ told. Gives self.old.book self.new.book told.1)) }
-        ensures recorded { OnOk result (WasGivenUp node request.now.client request.now.name) }
+        ensures me { OnOk result (self.old.book.me ≡ node) }
         ensures told { IfOk result (λ stepped.
             IfNone stepped.given_up (WaitsNot request.now.client request.now.name self.old.waiters.items)) }
         ensures err { OnErr result (self.new.book ≡ self.old.book) }
+        ensures refused { (why : BookError) → IsErrOf result (site.SiteError.Refused why)
+            → (why ≡ BookError.NotWaiting)
+            ⊎ RefusesCancel self.old.book request.now.client request.now.name why }
+        ensures no_memory { IsErrOf result (site.SiteError.Refused BookError.Memory) → ⊥ }
         ensures others { IsNotCancelled result }
     {
         if ticket.is_taken() {
@@ -300,7 +304,8 @@ impl Desk {
         gate: &G,
     ) -> Result<(), SiteError>
         ensures made { OnOk result (Adds self.old.book Forget [] [] self.new.book) }
-        ensures recorded { OnOk result (HasForgotten node) }
+        ensures me { OnOk result (self.old.book.me ≡ node) }
+        ensures err { OnErr result (self.new.book ≡ self.old.book) }
         ensures others { IsNotCancelled result }
     {
         if let Some(stop) = self.halt(node, gate) {
@@ -434,7 +439,7 @@ impl Desk {
 
     /// Returns what the last event of the book made, with the client that gave up in it. The client that it let in
     /// waits no more.
-    fn stepped(&mut self, posted: Posted, given_up: Option<(SharedTicket, GivenUp)>) -> Stepped
+    fn stepped(&mut self, posted: Posted, given_up: Option<SharedTicket>) -> Stepped
         requires fit { All Fits posted.frames.items }
         requires given { (grant : granted.Grant) → Contains posted.marks.items (mark.Mark.Entered grant.entry)
             → WasGiven grant }
@@ -462,21 +467,6 @@ impl Desk {
     {
         let ticket = self.take(entry.client, &entry.name)?;
         Some((ticket, Grant { entry }))
-    }
-
-    /// Takes a client of this node that gave up a name out of those that wait, if it is among them.
-    fn take_given_up(
-        &mut self,
-        node: NodeId,
-        client: u32,
-        name: Name,
-    ) -> Option<(SharedTicket, GivenUp)>
-        requires { WasGivenUp node client name }
-        ensures none { IfNone result (WaitsNot client name self.old.waiters.items) }
-        ensures book { self.new.book ≡ self.old.book }
-    {
-        let ticket = self.take(client, &name)?;
-        Some((ticket, GivenUp { node, client, name }))
     }
 
     /// Takes a client that waits for a name out of those that wait, if it is among them. Returns its ticket.

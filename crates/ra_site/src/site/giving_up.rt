@@ -1,8 +1,7 @@
 //! How a client gives up a name for which it waits: by a call, or when its time is over.
-ghost use Rattle.std.specs.Prelude.{IfNone, IfOk, IfSome, IsErrOf, OnOk};
+ghost use Rattle.std.specs.Prelude.{IfOk, IfSome, IsErrOf};
 ghost use Rattle.ra_site.specs.ClientGrant.{IsGrantOf, WasGiven};
 ghost use Rattle.ra_site.specs.PassedOn.{IsNotCancelled};
-ghost use Rattle.ra_site.specs.Recorded.{WasGivenUp};
 ghost use Rattle.ra_site.specs.Sites.{AreSitesWith};
 
 use crate::cluster::all_sites::stop_all;
@@ -39,8 +38,6 @@ impl Site {
         requires { AreSitesWith self.now sites.now }
         ensures grant { IfOk result (λ held. IfSome held (IsGrantOf self.now.node client name mode)) }
         ensures given { IfOk result (λ held. IfSome held WasGiven) }
-        ensures given_up { IfOk result (λ held. IfNone held (WasGivenUp self.now.node client name)) }
-        ensures cancelled { IsErrOf result SiteError.Cancelled → WasGivenUp self.now.node client name }
     {
         let limit = TimeLimit::new(rt, time);
         let request = Request { client, name, mode };
@@ -72,10 +69,6 @@ impl Site {
         ensures grant { IfOk result (λ held.
             IfSome held (IsGrantOf self.now.node request.now.client request.now.name request.now.mode)) }
         ensures given { IfOk result (λ held. IfSome held WasGiven) }
-        ensures given_up { IfOk result (λ held.
-            IfNone held (WasGivenUp self.now.node request.now.client request.now.name)) }
-        ensures cancelled { IsErrOf result SiteError.Cancelled
-            → WasGivenUp self.now.node request.now.client request.now.name }
     {
         let made = {
             let _share = self.sending.share(rt);
@@ -109,7 +102,7 @@ impl Site {
     /// 1. `Stopped`: the gate answered `false`. The cause is the one that the node keeps, of an earlier stop if there
     ///    was one.
     /// 2. `Refused`: the book refused it, as [`Book::cancel`] says, with `Failed` if the node was stopped before. After
-    ///    `NotWaiting` the client may hold the name.
+    ///    `NotWaiting` the client may hold the name. It is never `Memory`.
     pub fn cancel<R: Wait, G: Gate>(
         &self,
         rt: &R,
@@ -121,7 +114,7 @@ impl Site {
         gate: &G,
     ) -> Result<(), SiteError>
         requires { AreSitesWith self.now sites.now }
-        ensures recorded { OnOk result (WasGivenUp self.now.node client name) }
+        ensures no_memory { IsErrOf result (SiteError.Refused BookError.Memory) → ⊥ }
         ensures others { IsNotCancelled result }
     {
         let made = {

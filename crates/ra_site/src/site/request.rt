@@ -1,10 +1,8 @@
 //! What a client asks of a site.
 ghost use Rattle.std.specs.Prelude.{◌↔◌, IsTrue};
 ghost use Rattle.ra_site.specs.ClientGrant.{IsGrantOf};
-ghost use Rattle.ra_site.specs.Recorded.{WasGivenUp};
 
 use crate::Grant;
-use crate::site::outcome::GivenUp;
 use ra_stamp::{Mode, Name, NodeId};
 
 /// A client's request for a name in a mode.
@@ -28,12 +26,5 @@ impl Request {
             && entry.client == self.client
             && entry.name == self.name
             && entry.mode == self.mode
-    }
-
-    /// Returns whether it is the client of the request, at this node, that gave up, and the name is the request's.
-    pub fn is_given_up_by(&self, node: NodeId, given_up: &GivenUp) -> bool
-        ensures { IsTrue result → WasGivenUp node self.now.client self.now.name }
-    {
-        given_up.node == node && given_up.client == self.client && given_up.name == self.name
     }
 }

@@ -1,8 +1,7 @@
 //! Where a thread waits for the outcome of its request.
-ghost use Rattle.std.specs.Prelude.{IfOk, IfSome, IsErrOf};
+ghost use Rattle.std.specs.Prelude.{IfOk, IfSome};
 ghost use Rattle.std.specs.Result.{ForOk};
 ghost use Rattle.ra_site.specs.ClientGrant.{IsGrantOf, WasGiven};
-ghost use Rattle.ra_site.specs.Recorded.{WasGivenUp};
 
 use crate::site::outcome::{NotGranted, Outcome};
 use crate::site::request::Request;
@@ -63,8 +62,6 @@ impl Ticket {
     pub fn wait<R: Wait>(&self, rt: &R, node: NodeId, request: &Request) -> Result<Grant, SiteError>
         ensures grant { IfOk result (IsGrantOf node request.now.client request.now.name request.now.mode) }
         ensures given { IfOk result WasGiven }
-        ensures cancelled { IsErrOf result SiteError.Cancelled
-            → WasGivenUp node request.now.client request.now.name }
     {
         for _ in rt.forever() {
             match self.told(rt, node, request) {
@@ -87,8 +84,6 @@ impl Ticket {
         ensures grant { IfSome result (λ answer.
             IfOk answer (IsGrantOf node request.now.client request.now.name request.now.mode)) }
         ensures given { IfSome result (λ answer. IfOk answer WasGiven) }
-        ensures cancelled { IfSome result (λ answer. IsErrOf answer SiteError.Cancelled
-            → WasGivenUp node request.now.client request.now.name) }
     {
         for _ in rt.forever() {
             let answer = self.told(rt, node, request);
@@ -113,22 +108,18 @@ impl Ticket {
         ensures grant { IfSome result (λ answer.
             IfOk answer (IsGrantOf node request.now.client request.now.name request.now.mode)) }
         ensures given { IfSome result (λ answer. IfOk answer WasGiven) }
-        ensures cancelled { IfSome result (λ answer. IsErrOf answer SiteError.Cancelled
-            → WasGivenUp node request.now.client request.now.name) }
     {
         // The lock is given back at once, so that nobody waits for it while this thread sleeps.
         let outcome = self.outcome.lock(rt).take();
         let Some(Outcome { answer }) = outcome else {
             return None;
         };
-        // It is always the request's, but no contract can say what another thread told.
         match answer {
+            // A grant is always the request's, but no contract can say what another thread told.
             Ok(grant) if request.is_granted_by(node, &grant) => Some(Ok(grant)),
-            Err(NotGranted::GivenUp(given_up)) if request.is_given_up_by(node, &given_up) => Some(
-                Err(SiteError::Cancelled),
-            ),
+            Ok(_) => None,
+            Err(NotGranted::GivenUp) => Some(Err(SiteError::Cancelled)),
             Err(NotGranted::Stopped(stop)) => Some(Err(SiteError::Stopped(stop))),
-            _ => None,
         }
     }
 }

@@ -4,12 +4,12 @@ use Rattle.ra_book.specs.declared.book.event.BookKind.TheVariants.{Cancel}
 use Rattle.ra_book.specs.Book.{BookState, Adds}
 use Rattle.ra_site.specs.Waiting.{WaitsNot}
 use Rattle.ra_site.proofs.GivenGrants.{given, told_is_given}
-use Rattle.ra_site.proofs.RecordedEvents.{recorded}
 use Rattle.ra_site.proofs.Telling.{same_none}
 use Rattle.ra_site.proofs.LostFrames.{still_none_after}
 use Rattle.ra_book.specs.Keeping.{RefusesCancel}
 use Rattle.ra_book.specs.declared.error.BookError.{BookError}
-use Rattle.ra_site.proofs.Refusing.{same_cause, not_cancelled}
+use Rattle.ra_book.specs.declared.error.BookError.TheVariants.{Memory}
+use Rattle.ra_site.proofs.Refusing.{same_cause, not_cancelled, not_refused}
 use Rattle.ra_site.proofs.site.desk.Desk.cancel.Goals as goal
 
 pub invariant_of-self : goal.invariant_of-self
@@ -29,18 +29,18 @@ pub returns : goal.returns
 returns g c =
     let marks = c.in_ok-posted.posted.marks.items in
     let kind = Cancel c.args.client c.args.name in
-    let same = c.stepped.ensures.book ∙ c.take_given_up-given_up.ensures.book in
+    let same = c.stepped.ensures.book ∙ c.take-given_up.ensures.book in
     record {
       made = (
         marks,
         subst (λ (b : BookState). Adds c.args.self.now.book kind c.stepped.result.frames.items marks b) (sym same)
             (subst (λ (fs : List Frame). Adds c.args.self.now.book kind fs marks c.cancel.new.self) (sym c.stepped.ensures.frames) c.in_ok-posted.ensures.ok),
       );
-      told = same_none (WaitsNot c.args.client c.args.name c.args.self.now.waiters.items) _ _ c.stepped.ensures.given_up c.take_given_up-given_up.ensures.none;
+      told = same_none (WaitsNot c.args.client c.args.name c.args.self.now.waiters.items) _ _ c.stepped.ensures.given_up c.take-given_up.ensures.none;
       err = tt;
-      recorded = recorded c.args.node kind c.args.self.now.book c.in_ok-posted.posted.frames.items marks c.cancel.new.self c.in_ok-posted.ensures.ok
-          c.in_ok-posted.ensures.history (c.in_default.ensures refl);
+      me = c.in_default.ensures refl;
       refused = λ why is. absurd cc;
+      no_memory = λ is. absurd cc;
       others = λ is. absurd cc;
       given = told_is_given c.args.self.now.book _ c.in_ok-posted.posted.frames.items c.in_ok-posted.posted.marks.items c.cancel.new.self c.in_ok-posted.ensures.ok
           _ _ _ refl same c.stepped.ensures.entered;
@@ -49,14 +49,13 @@ returns g c =
 pub returns-in_err-posted-clause-others : goal.returns-in_err-posted-clause-others
 returns-in_err-posted-clause-others g c = not_cancelled c.in_err-posted.field-0.0 c.from_residual.result c.from_residual.ensures.1
 
+pub returns-in_err-posted-clause-no_memory : goal.returns-in_err-posted-clause-no_memory
+returns-in_err-posted-clause-no_memory g c =
+    not_refused c.in_err-posted.field-0.0 Memory c.from_residual.result c.from_residual.ensures.1 c.in_err-posted.ensures.no_memory
+
 pub returns-in_err-posted-clause-refused : goal.returns-in_err-posted-clause-refused
 returns-in_err-posted-clause-refused g c = λ why is.
     let told = c.in_err-posted.ensures in
     subst (λ (e : BookError). RefusesCancel c.args.self.now.book c.args.client c.args.name e)
     (same_cause c.in_err-posted.field-0.0 why c.from_residual.result c.from_residual.ensures.1 is)
     (record { failed = told.failed; not_waiting = told.not_waiting; clock_full = told.clock_full; allowed = told.allowed })
-
-pub take_given_up-given_up-requires : goal.take_given_up-given_up-requires
-take_given_up-given_up-requires g c =
-    recorded c.args.node (Cancel c.args.client c.args.name) c.args.self.now.book c.in_ok-posted.posted.frames.items c.in_ok-posted.posted.marks.items c.cancel.new.self
-    c.in_ok-posted.ensures.ok c.in_ok-posted.ensures.history (c.in_default.ensures refl)

@@ -3,11 +3,11 @@ use Rattle.ra_frame.specs.declared.frame.Frame.{Frame}
 use Rattle.ra_book.specs.declared.book.event.BookKind.TheVariants.{Leave}
 use Rattle.ra_book.specs.Book.{BookState, Adds}
 use Rattle.ra_site.proofs.GivenGrants.{given, told_is_given}
-use Rattle.ra_site.proofs.RecordedEvents.{recorded}
 use Rattle.ra_site.proofs.LostFrames.{still_none_after}
 use Rattle.ra_book.specs.Keeping.{RefusesLeave}
 use Rattle.ra_book.specs.declared.error.BookError.{BookError}
-use Rattle.ra_site.proofs.Refusing.{same_cause, not_cancelled}
+use Rattle.ra_book.specs.declared.error.BookError.TheVariants.{Memory}
+use Rattle.ra_site.proofs.Refusing.{same_cause, not_cancelled, not_refused}
 use Rattle.ra_site.proofs.site.desk.Desk.leave.Goals as goal
 
 pub invariant_of-self : goal.invariant_of-self
@@ -34,9 +34,9 @@ returns g c =
             (subst (λ (fs : List Frame). Adds c.args.self.now.book kind fs marks c.leave.new.self) (sym c.stepped.ensures.frames) c.in_ok-posted.ensures.ok),
       );
       err = tt;
-      recorded = recorded c.args.node kind c.args.self.now.book c.in_ok-posted.posted.frames.items marks c.leave.new.self c.in_ok-posted.ensures.ok
-          c.in_ok-posted.ensures.history (c.in_default.ensures refl);
+      me = c.in_default.ensures refl;
       refused = λ why is. absurd cc;
+      no_memory = λ is. absurd cc;
       others = λ is. absurd cc;
       given = told_is_given c.args.self.now.book _ c.in_ok-posted.posted.frames.items c.in_ok-posted.posted.marks.items c.leave.new.self c.in_ok-posted.ensures.ok
           _ _ _ refl c.stepped.ensures.book c.stepped.ensures.entered;
@@ -44,6 +44,10 @@ returns g c =
 
 pub returns-in_err-posted-clause-others : goal.returns-in_err-posted-clause-others
 returns-in_err-posted-clause-others g c = not_cancelled c.in_err-posted.field-0.0 c.from_residual.result c.from_residual.ensures.1
+
+pub returns-in_err-posted-clause-no_memory : goal.returns-in_err-posted-clause-no_memory
+returns-in_err-posted-clause-no_memory g c =
+    not_refused c.in_err-posted.field-0.0 Memory c.from_residual.result c.from_residual.ensures.1 c.in_err-posted.ensures.no_memory
 
 pub returns-in_err-posted-clause-refused : goal.returns-in_err-posted-clause-refused
 returns-in_err-posted-clause-refused g c = λ why is.
