@@ -123,8 +123,8 @@ impl Post {
     }
 
     /// Sends frames one after the other, up to the first that is refused. Returns that one and those after it, which
-    /// were not tried, or `None` if all were sent. No close comes between two frames, so each is encoded under the lock,
-    /// which other threads that send share. Only a close waits for it.
+    /// were not tried, or `None` if all were sent. No close comes between two frames, so each is encoded under the
+    /// lock, which other threads that send share. Only a close waits for it.
     pub(crate) fn send_up_to<'a, R: Wait>(
         &self,
         rt: &R,

@@ -2,7 +2,7 @@ use ra_stamp::{Entry, NodeId};
 
 /// What watches a cluster, and may stop it. The threads of the cluster share it.
 pub trait Gate: Sync {
-    /// Is called under the lock of this node, just before each call of its book that may be an event. The book may still
+    /// Is called under the lock of this node, just before each call of its book that may be an event. The book may yet
     /// refuse that call. The answer `false` stops the cluster, and the call is not made. It must call no site of the
     /// cluster, since that would wait for a lock that its own thread has. Nor must it wait for anything else, since
     /// meanwhile each other call of this node's site waits for it.
