@@ -1,4 +1,4 @@
-use ra_disk::{Book, FileError, DiskFile, OpenError};
+use ra_disk::{Book, DiskFile, FileError, OpenError};
 use std::fs;
 use std::test::Fail;
 
