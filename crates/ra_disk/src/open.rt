@@ -91,14 +91,10 @@ fn open_locked(rt: &HostRuntime, path: &str) -> Result<File, OpenError> {
     Ok(file)
 }
 
-/// Syncs the file and its folder, and asks the kernel to drop its copies of the file's pages: a failed sync of an
-/// earlier process may have left them other than the disk has them.
+/// Syncs the file and its folder. If a sync of an earlier process failed, the kernel may keep the file otherwise than the
+/// disk has it, and sync no more: then the machine has to be started again first.
 fn sync_whole(rt: &HostRuntime, file: &File, path: &str) -> io::Result<()> {
     file.sync_all()?;
-    let advised = libc::posix_fadvise(file.as_raw_fd(), 0, 0, libc::POSIX_FADV_DONTNEED);
-    if advised != 0 {
-        return Err(io::Error::from_raw_os_error(advised));
-    }
     let mut folder = fs::canonicalize(rt, path)?;
     folder.pop();
     File::open(rt, folder.as_str())?.sync_all()
