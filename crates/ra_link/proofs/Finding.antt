@@ -129,7 +129,7 @@ not_ready p h up_one up_two less =
           absurd (omega (arith, h.known.two.book.taken, (h.known.two.book.link up_two).taken_all))
     ]
 
--- the answer shows an old book, and the other host is told
+-- the answer shows an old book, and the other host learns of it
 asks_old : (p : Pair) → IsSure p → p.one.up ≡ true → p.two.up ≡ true → is_above (asking p.one.link) p.two.link.taken ≡ false → shows_old (asking p.one.link) p.two.link.own p.two.link.taken ≡ true → OneHasEnded (run (answering p) rest)
 asks_old p h up_one up_two above shows =
     let x = answering p in

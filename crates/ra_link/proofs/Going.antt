@@ -173,7 +173,7 @@ pub record HearsAbove (x : Host) (back : List Packet) : Type 0 where
   pub counts : CountsFor x.link message
   pub above : x.link.sent < count_in message
 
--- it is told that its book is old
+-- it learns that its book is old
 pub record HearsOld (x : Host) (back : List Packet) : Type 0 where
   pub count : ℕ
   pub frame : List ℕ

@@ -30,8 +30,8 @@ OfListIn list start (Old count) frame = Unit {0}
 abbrev pub OfList : List (List ℕ) → List Packet → ℕ → Type 0
 OfList list there start = AllByRecursion (λ p. OfListIn list start p.message p.frame) there
 
--- There is a list of frames of which the book of a has the first, and b has taken the first. What b may still take of a
--- is on it.
+-- There is a list of frames. The book of a has a first part of it, and b has taken a first part of it. What b may still
+-- take from a is on the list.
 pub record Sends (a b : Host) (there : List Packet) : Type 0 where
   pub list : List (List ℕ)
   pub sent : a.sent ≡ take (length a.sent) list
@@ -94,7 +94,7 @@ sends_same z b says there back list quiet sent taken s own said =
           h) b there said);
     }
 
--- so many were taken at most
+-- at most this many were taken
 taken_before : (x b z : Host) (there back : List Packet) → IsBook x → Reaches x b there back → GoesOn x z back → z.link.ready ≡ true → length b.taken ≤ length x.sent
 taken_before x b z there back k r on c =
     elim (on.readied c) [

@@ -13,7 +13,7 @@ use Rattle.ra_link.proofs.Going.{same_some, none_is_some, look, IsBook, Question
 
 -- ---- Nonces and questions
 
--- a starts are those of a; a question that b asked is no later than its last one
+-- the starts named a belong to a; a question that b asked is no later than its last one
 abbrev pub NamedIn : Host → Host → Message → Type 0
 NamedIn a b (Hello start question) = (was_used start a.starts ≡ true) × (a.up ≡ true → start ≡ a.link.own → question ≤ a.link.asked)
 NamedIn a b (Welcome asker question start kept) =

@@ -1,4 +1,4 @@
--- Rounds in which what is said comes: what is proved of the first host holds of the second one by a swap.
+-- Rounds in which what is said arrives: what is proved of the first host holds for the second one by a swap.
 use Rattle.std.proofs.Common.{◌≡◌, ◌≤◌, ◌+◌, ◌==◌, ◌⊎◌, inl, inr, ℕ, List, [], ◌∷◌, ◌++◌, Bool, true, false, not, ◌&&◌, cond, length, max, refl, sym, ◌∙◌, ap, subst, Some, None, arith, zero, suc, ◌≢◌}
 use Rattle.std.specs.Prelude.{nat_lt}
 use Rattle.std.proofs.lemmas.Bool.{cases_Bool, cond_both, and_from, and_right, eq-eqb, both_ways, false≢true, and_cases, eqb-false}

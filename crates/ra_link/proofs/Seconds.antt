@@ -209,7 +209,7 @@ seconds_settle (suc n) p h one two =
           (omega (arith, two, ap length later.sent_two, later.acknowledged_two))
     ]
 
--- so many seconds after the first round
+-- this many seconds after the first round
 pub first_settles : (n : ℕ) (p q : Pair) → IsFirst p q → LackFew n p → OneHasEnded (after_seconds n q) ⊎ BothSettled (after_seconds n q)
 first_settles n p q h few =
     seconds_settle n q h.ready

@@ -123,12 +123,12 @@ ack_of l = ack_to l.adopted l
 
 -- ---- Old books
 
--- It tells the other host that its book is old, as long as the question is open of which an answer showed it.
+-- It tells the other host that its book is old, as long as the question whose answer showed it is open.
 abbrev pub old_of : Link → Option Message
 old_of l = if is_open l.pending && l.is_old then Some (Old l.acknowledged) else None
 
--- This host is told that its own book is old: it lacks frames that it has acknowledged. A ready host passes it over:
--- its book has all that the other's present start knows to be acknowledged, so what comes was said of an earlier one.
+-- This host learns that its own book is old: it lacks frames that it has acknowledged. A ready host ignores this: its
+-- book has all that the other's present start knows to be acknowledged, so what comes was said about an earlier one.
 abbrev pub old_accuses : Link → ℕ → Bool
 old_accuses l count = not l.ready && nat_lt l.taken count
 

@@ -1,4 +1,4 @@
--- Two rounds of one schedule: each message comes at once after it was said, and nothing else happens. After them,
+-- Two rounds of one schedule: each message arrives at once after it was said, and nothing else happens. After them,
 -- nothing is under way between two hosts that are up.
 use Rattle.std.specs.Prelude.{◌≡◌, ◌≤◌, ◌⊎◌, true, false, ◌+◌, ◌*◌, ◌++◌, ◌∷◌, [], ℕ, List, suc, zero, length}
 use Rattle.ra_link.specs.Link.{said_again}

@@ -1,5 +1,5 @@
--- Two hosts whose books may be put back: while a host is down, its book may be cut to the first of the lines that it
--- has then. A copy with lines that a crash or another put-back took since is none of these.
+-- Two hosts whose books may be put back: while a host is down, its book may be cut to some of the first lines that it
+-- has then. A copy does not count if it has lines that a crash or another put-back took since.
 use Rattle.std.specs.Prelude.{ℕ, Bool, true, false, List, [], ◌∷◌, take, min, if◌then◌else◌}
 use Rattle.ra_link.specs.Pair.{Host, Event, Who, Pair, happens, new_pair}
 use Rattle.ra_link.specs.Pair.Who.{One, Two}

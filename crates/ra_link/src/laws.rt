@@ -26,7 +26,7 @@ pub fn acknowledged_frames_are_on_the_disk()
         (this who p).link.acknowledged ≤ (other who p).taken_kept }
 {}
 
-/// As many frames as a host ever said to have on its disk are there, also later.
+/// A host always has as many frames on its disk as it ever said to have there.
 pub fn counts_are_true()
     ensures { (events : List (Who × Event)) (who : Who) → let p = after events in
         All (λ packet. count_in packet.message ≤ (this who p).taken_kept) (said_by who p) }
@@ -53,11 +53,11 @@ pub fn whole_books_are_not_accused()
     ensures { (events : List (Who × Event)) (who : Who) → (this who (after events)).accused ≡ false }
 {}
 
-/// It goes on: whenever both hosts are up, two rounds leave nothing under way, if each message comes at once after it
+/// The hosts go on: whenever both are up, two rounds leave nothing under way, if each message arrives at once after it
 /// is said, and nothing else happens. In the first one both ask, are answered, and acknowledge. In the second one both
-/// say again what is not acknowledged, at most 1,000 frames each second, sync, and acknowledge: it lasts a second for
-/// each 1,000 frames that a host lacks. Only a host that has asked 2^64-2 questions since its start may be unable to
-/// ask once more.
+/// say again what is not acknowledged, at most 1,000 frames each second, sync, and acknowledge. This round lasts a
+/// second for each 1,000 frames that a host lacks. Only a host that has asked 2^64-2 questions since its start may be
+/// unable to ask again.
 pub fn two_rounds_leave_nothing_under_way()
     ensures { (events : List (Who × Event)) (seconds : ℕ) (who : Who) → let p = after events in
         p.one.up ≡ true → p.two.up ≡ true
@@ -146,11 +146,11 @@ pub fn a_host_that_was_ready_lacks_nothing()
         (other who q).up ≡ true → (other who q).link.acknowledged ≤ (this who q).taken_kept }
 {}
 
-/// It goes on, or it is found out, even if books are put back: whenever both hosts are up, two rounds leave nothing
-/// under way, unless a host has ended since its book is old, if each message comes at once after it is said, and
-/// nothing else happens. In the first one each host syncs before it answers, and one that was shown an old book says
-/// so. The second one lasts a second for each 1,000 frames that a host lacks. Only after 2^64-3 questions of a start
-/// this may fail.
+/// The hosts go on, or an old book is found out, even if books are put back. Whenever both hosts are up, two rounds
+/// leave nothing under way, or a host has ended since its book is old, if each message arrives at once after it is
+/// said, and nothing else happens. In the first one each host syncs before it answers, and one that was shown an old
+/// book says so. The second one lasts a second for each 1,000 frames that a host lacks. This may fail only after a
+/// start has asked 2^64-3 questions.
 pub fn two_rounds_settle_or_find_out()
     ensures { (all : List (Who × Move)) (seconds : ℕ) (who : Who) → let p = after_moves all in
         p.one.up ≡ true → p.two.up ≡ true

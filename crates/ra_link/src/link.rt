@@ -30,7 +30,7 @@ pub struct Link {
     own: u128,
     /// The nonce of the other's start that asked last.
     heard: Option<u128>,
-    /// The nonce of the other's start of which frames are taken.
+    /// The nonce of the other's start whose frames are taken.
     adopted: Option<u128>,
     /// The number of the last question.
     asked: u64,
@@ -102,8 +102,8 @@ impl Link {
         }
     }
 
-    /// Returns what tells the other host that its book is old, as long as the question is open of which an answer
-    /// showed it. Say it with each `hello`.
+    /// Returns what tells the other host that its book is old, as long as the question whose answer showed it is open.
+    /// Say it with each `hello`.
     pub fn old(&self) -> Option<Message>
         ensures { result ≡ old_of self.now }
     {

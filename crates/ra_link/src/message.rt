@@ -1,5 +1,5 @@
-/// What one host says to another one. It names the starts for which it is, by their nonces: 128 random bits, that no
-/// other start ever has. The text of a frame goes with its message.
+/// What one host says to another one. It names the starts that it is meant for, by their nonces: 128 random bits that
+/// no other start ever has. The text of a frame goes with its message.
 #[derive(Clone, Copy, Debug, PartialEq, Eq)]
 pub enum Message {
     /// A question, which is said again until it is answered.
@@ -24,14 +24,14 @@ pub enum Message {
     Frame {
         /// The nonce of the start that says it.
         start: u128,
-        /// The number of the frame, 1 or more. Frames for a host are numbered in the order in which they were made.
+        /// The number of the frame, 1 or more. The frames for a host are numbered in the order of their making.
         number: u64,
     },
     /// All frames that were taken from the receiver are on the disk.
     Ack {
         /// The nonce of the start that says it.
         start: u128,
-        /// The nonce of the receiver's start, of which it takes frames.
+        /// The nonce of the receiver's start: the start whose frames it takes.
         other: u128,
         /// How many they are.
         kept: u64,
