@@ -253,7 +253,7 @@ ready_after_append old new text (Err e) ready is ok none = absurd (some_is_none 
 pub opened_is_ready : (f : Contents) → IsReady (opens f)
 opened_is_ready f = (synced_is_good (cuts_torn f) (subst IsWhole (sym (seen_cut f)) (whole_is_whole (seen f)))).1
 
--- as the file is opened: it has this text, and is cut to so many bytes
+-- as the file is opened: it has this text, and is cut to this many bytes
 pub within_file : (f : Contents) (text : List ℕ) (len : ℕ) → text ≡ seen f → len ≡ length (whole text) → len ≤ f.size
 within_file f text len is same = omega (arith, same, length-whole text, ap length is, length-take f.size f.written)
 

@@ -4,7 +4,7 @@ use Rattle.ra_disk.specs.Lines.{lines, whole, IsWhole}
 use Rattle.ra_disk.specs.Contents.{Contents, seen, settled, appends, cuts, syncs, crashes}
 
 pub data State : Type 0 where
-  -- nobody has it open, or a call has failed since
+  -- no process has it open, or a call has failed since
   Closed : (file : Contents) → State
   -- it was opened, and each call since has succeeded
   Open : (file : Contents) → State
@@ -17,8 +17,8 @@ pub data Event : Type 0 where
   -- these lines are appended
   Appends : (text : List ℕ) → IsWhole text → Event
   Syncs : Event
-  -- its host or the machine crashes, or a call fails, and so many bytes are left. If it crashes in a call, it leaves what
-  -- a crash before the call or after it may leave
+  -- its host or the machine crashes, or a call fails, and this many bytes are left. If it crashes in a call, it leaves
+  -- what a crash before the call or after it may leave
   Crashes : (size : ℕ) → Event
 
 abbrev pub file_of : State → Contents

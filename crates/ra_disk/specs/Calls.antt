@@ -9,7 +9,7 @@ Call = ℕ × ℕ × Bool × List ℕ
 abbrev pub call_of : List ℕ → List ℕ → Call
 call_of numbers bytes = (slice_index numbers 0, slice_index numbers 1, slice_index numbers 2 == 1, bytes)
 
--- it was opened, and these bytes were read. What of them is on the disk, nobody knows
+-- it was opened, and these bytes were read. Nobody knows which of them are on the disk
 abbrev pub opened : List ℕ → Call
 opened bytes = (0, 0, true, bytes)
 

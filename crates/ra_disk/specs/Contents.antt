@@ -5,9 +5,9 @@ use Rattle.std.specs.Prelude.{◌≡◌, ◌++◌, ℕ, List, min, max, take, le
 -- may leave another front.
 pub record Contents : Type 0 where
   pub written : List ℕ
-  -- a read returns so many of these bytes. The others were cut, or a crash took them
+  -- a read returns this many of these bytes. The others were cut, or a crash took them
   pub size : ℕ
-  -- so many are on the disk
+  -- this many are on the disk
   pub kept : ℕ
 
 -- what a read returns
@@ -35,7 +35,7 @@ cuts size f = record f { size = size; kept = min size f.kept }
 abbrev pub syncs : Contents → Contents
 syncs f = settled (seen f)
 
--- so many bytes are left, or those on the disk if these are more
+-- this many bytes are left, or those on the disk if these are more
 abbrev pub crashes : ℕ → Contents → Contents
 crashes size f = record f { size = max f.kept (min size (length f.written)) }
 

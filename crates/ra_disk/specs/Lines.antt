@@ -2,8 +2,8 @@
 use Rattle.std.specs.Prelude.{◌≡◌, ◌⊎◌, ◌==◌, ◌++◌, [], ◌∷◌, ℕ, List, Bool, true, false}
 use Rattle.std.specs.List.{concat}
 
--- a byte before these lines: a line of its own, or part of the first one. Of bytes with no line feed after them there
--- is no line
+-- a byte before these lines: a line of its own, or part of the first one. Bytes with no line feed after them are no
+-- line
 abbrev pub puts : Bool → ℕ → List (List ℕ) → List (List ℕ)
 puts true byte lines = (byte ∷ []) ∷ lines
 puts false byte [] = []

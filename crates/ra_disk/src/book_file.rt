@@ -34,7 +34,7 @@ pub trait BookFile {
         ensures contents { contents self.new ≡ contents self.old }
         ensures past { past self.new ≡ past self.old };
 
-    /// Writes bytes after those that are there.
+    /// Writes bytes after those that the file has.
     ///
     /// # Errors
     ///

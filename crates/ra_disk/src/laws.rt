@@ -16,8 +16,8 @@ pub fn a_crash_leaves_a_front()
         → IsPrefixOf (on_disk file) bytes → IsPrefixOf bytes file.written → MayLeave file bytes }
 {}
 
-/// What a call of a book makes happen goes on from what happened before. So the laws here hold of every book, as long
-/// as one process has it. That the next one reads what a crash may leave of it is a premise.
+/// What a call of a book makes happen goes on from what happened before. So these laws hold for every book, as long as
+/// one process has it. It is a premise that the next process reads something that a crash may leave.
 pub fn a_book_goes_on_from_its_past()
     ensures { (earlier later : List Event) → steps later (after earlier) ≡ after (later ++ earlier) }
 {}
@@ -56,8 +56,8 @@ pub fn a_comeback_finds_the_first_lines()
         → AreFirst (lines (on_disk before)) (lines (seen now)) × AreFirst (lines (seen now)) (lines (seen before)) }
 {}
 
-/// An opening leaves out nothing but a torn last line, and what it leaves is on the disk. It depends on what is read
-/// alone, so nobody has to know what was on the disk before.
+/// An opening leaves out nothing but a torn last line, and what it leaves is on the disk. It depends only on what is
+/// read, so nobody has to know what was on the disk before.
 pub fn an_opening_keeps_whole_lines()
     ensures alone { (one other : Contents) → seen one ≡ seen other → opens one ≡ opens other }
     ensures whole { (events : List Event) (file : Contents) → after events ≡ Closed file
