@@ -22,7 +22,7 @@ use Rattle.ra_book_text.proofs.Lines.{happened, opened}
 pub nothing : (text : List ℕ) → Begins text [] text
 nothing text = record { text_is = refl; each = All-nil HasNoFeed }
 
--- one more line
+-- another line
 pub one_more : (text : List ℕ) (lines : List (List ℕ)) (rest line after : List ℕ) → Begins text lines rest → rest ≡ line ++ 10 ∷ after → HasNoFeed line
     → Begins text (lines ++ line ∷ []) after
 one_more text lines rest line after begins is free = record {
@@ -87,7 +87,7 @@ line_wrong text rest line after turn number why old new h is free number_is wron
   wrong = subst (λ (v : BookVersion). IsWrongLine v (books_of old) line why) h.gathered.version_is wrong;
 })
 
--- the first line is none of a book
+-- the first line does not begin a book
 pub no_beginning : (text line rest : List ℕ) → Begins text (line ∷ []) rest → IsNoFirst line → IsWrong true text 1 cause.Line
 no_beginning text line rest begins not_first = inr (record {
   before = [];

@@ -1,4 +1,4 @@
--- What comes of a text is its verdict.
+-- The outcome of a text is its verdict.
 use Rattle.std.proofs.Common.{◌≡◌, ◌⊎◌, ℕ, Bool, true, false, List, inl, inr, refl}
 use Rattle.std.specs.Prelude.{IfErr, IfOk, IsErrOf, IsOkUnless, MatchResult, OnOk, Result, Ok, Err}
 use Rattle.ra_book.specs.Book.{BookState}

@@ -151,8 +151,7 @@ no_later_words line no_cancel no_forget =
 pub no_later_cancel : (line rest : List ℕ) → line ≡ codes "cancel " ++ rest → cancel_of rest ≡ None → IsNoLater line
 no_later_cancel line rest is none = (λ client name h. cancel_none rest none line is (Cancel client name) h, λ h. cancel_none rest none line is Forget h)
 
--- the first line
--- what is told of the fields of a cancel
+-- what is told about the fields of a cancel holds for the first line
 pub cancel_told : (line rest : List ℕ) (o : Option BookKind) → o ≡ cancel_of rest → line ≡ codes "cancel " ++ rest → length line ≤ 256 → MatchOption o (IsNoLater line) (IsEvent line)
 cancel_told line rest None e is short = no_later_cancel line rest is (sym e)
 cancel_told line rest (Some kind) e is short = cancel_some rest kind (sym e) line is short

@@ -20,7 +20,7 @@ use Rattle.ra_book_text.specs.Gathering.{HasHappened, IsGathered, IsOpened, book
 use Rattle.ra_book_text.proofs.Versions.{reads_first, reads_event}
 use Rattle.ra_book_text.proofs.Last.{all_before, at_last, pairs_before, pairs_at_last}
 
--- one more line, and what it says
+-- another line, and what it says
 pub zip_push : (lines : List (List ℕ)) (said : List Said) (line : List ℕ) (one : Said) → AllZip Says lines said → Says line one
     → AllZip Says (lines ++ line ∷ []) (said ++ one ∷ [])
 zip_push [] [] line one h is = (is, tt)
@@ -34,7 +34,7 @@ zip_long [] (t ∷ said) h = absurd h
 zip_long (l ∷ lines) [] h = absurd h
 zip_long (l ∷ lines) (t ∷ said) h = ap suc (zip_long lines said h.1)
 
--- what the lines say, with those of one more book
+-- what the lines say, with the lines of another book
 pub said_more : (books : List BookState) (book : BookState) → flat_map said_by (books ++ book ∷ []) ≡ flat_map said_by books ++ said_by book
 said_more books book = sym (flat_map_more said_by [] books book)
 

@@ -25,7 +25,7 @@ use Rattle.ra_book.specs.declared.book.event.BookKind.{BookKind}
 use Rattle.ra_book_text.proofs.Versions.{reads_append}
 use Rattle.ra_book_text.proofs.OneReading.{LineLaws, all_said, one_text}
 
--- what was answered to a book is that of a node which was driven
+-- what was answered to a book is what a driven node answered
 pub driven_by : (first : List ℕ) (lines : List (List ℕ)) (text : List ℕ) → AnswersBook (first ∷ lines) text
     → (driven : Driven) × IsDriven driven × (driven.first ≡ first) × (lines_of driven.answered ≡ lines) × (text ≡ codes "ok\n" ++ text_of driven.answered)
 driven_by first lines text (version, node, nodes, start, end, rest, is_first, text_is, (all, lines_are, rest_is, each)) = (
@@ -36,7 +36,7 @@ driven_by first lines text (version, node, nodes, start, end, rest, is_first, te
   text_is ∙ ap (λ (t : List ℕ). codes "ok\n" ++ t) rest_is,
 )
 
--- what came of the lines that a node accepted
+-- the outcome of the lines that a node accepted
 record Happened (version : BookVersion) (old new : Timed) (kept : List Answered) : Type 0 where
   postings : List Posting
   takes : TakesEach old postings new

@@ -88,7 +88,7 @@ none_unsent books came all sent (k, frame, low, at, unsent) =
 
 -- ---- Pairs, when places change
 
--- where a place went when a and b changed places
+-- the new place of an element after a and b were swapped
 moved_place : {X : Type 0} (f g : ℕ → X) (a b n : ℕ) → Swapped f g a b → a < n → b < n → (p : ℕ) → p < n
     → (s : ℕ) × (s < n) × (g p ≡ f s) × (p ≡ a → s ≡ b) × (p ≡ b → s ≡ a) × ((p ≡ a → ⊥) → (p ≡ b → ⊥) → s ≡ p)
 moved_place f g a b n sw la lb p lp =

@@ -90,7 +90,7 @@ none_lost (s ∷ sent) kept =
     let rest = none_lost sent (All-tail (λ s. s.lost ≡ false) s sent kept) in
     λ i. record { frame = s.frame; lost = first i } ∷ rest i
 
--- the history of a book from which nothing was taken
+-- the history of a book if nothing was taken from it
 whole_events_are : (book : BookState) → IsRead book → whole_events book ≡ book.events
 whole_events_are book read = ap (λ (t : TakenState). t.events ++ book.events) read.whole
 
@@ -216,7 +216,7 @@ module _ (laws : HistoryLaws) where
   can_at last (Receive frame) read next =
       (read.no_fault, next.for_it, subst (λ (es : List BookEvent). clock_after (clock_of es) (Receive frame) ≤ 2 ^ 62) (sym (whole_events_are last read)) next.low)
 
-  -- the node of a book can take the event with which the book goes on
+  -- the node of a book can take the book's next event
   pub can_take : (last : BookState) (kind : BookKind) → IsRead last → GoesOnWith last kind → CanTake last kind
   can_take last kind read on =
       let own = whole_history last read in

@@ -1,4 +1,4 @@
--- What comes of the books that were gathered from a text.
+-- The outcome of the books that were gathered from a text.
 use Rattle.std.proofs.Common.{◌≡◌, ℕ, Bool, true, List, [], ◌∷◌, length, length-append, Result, Ok, Err, inr, ap, subst, sym, ◌∙◌, arith}
 use Rattle.std.proofs.lemmas.Bool.{false≢true}
 use Rattle.std.specs.Prelude.{All, IsErrAnd, IsErrOf, MatchResult}

@@ -122,7 +122,7 @@ one_refusal why other x y is =
     (sym (append_assoc (codes "refused" ++ field (word_of why)) (codes "\n") x) ∙ is ∙ append_assoc (codes "refused" ++ field (word_of other)) (codes "\n") y) in
     (ap (λ (t : List ℕ). t ++ codes "\n") same.0, same.1)
 
--- and it is none of those to a line that is accepted
+-- and it is not one of the answers to an accepted line
 marks_apart : (marks : List Mark) (why : Refusal) (x y : List ℕ) → (flat_map mark_line marks ++ codes "ok\n") ++ x ≡ refused_line why ++ y → ⊥
 marks_apart [] why x y is = let first : 111 ≡ 114 = head_of is in omega (arith, first)
 marks_apart (Requested entry ∷ marks) why x y is =

@@ -36,7 +36,7 @@ again_at came i one within at again once = record {
   once = once;
 }
 
--- one more message, which did not come before
+-- another message, which did not come before
 pub apart_more : (messages : List Message) (message : Message) → AllPairs (λ a b. a ≢ b) messages → (Contains messages message → ⊥)
     → AllPairs (λ a b. a ≢ b) (messages ++ message ∷ [])
 apart_more messages message apart is_new =

@@ -62,13 +62,13 @@ read_on old mid new line lines part first others = record {
   rest = others.rest;
 }
 
--- one more answer
+-- another answer
 each_more : (version : BookVersion) (a b c : Timed) (all : List Answered) (one : Answered) → AnswersEach version a all b → AnswersEach version b (one ∷ []) c → AnswersEach version a (all ++ one ∷ []) c
 each_more version a b c [] one h answer = subst (λ (at : Timed). AnswersEach version at (one ∷ []) c) h answer
 each_more version a b c (Accepted line answer ∷ all) one h more = (h.0, h.1, each_more version h.0 b c all one h.2 more)
 each_more version a b c (Refused line answer ∷ all) one h more = (h.0, each_more version a b c all one h.1 more)
 
--- it is that of a line which was accepted or refused
+-- it is the answer to a line that was accepted or refused
 its_answer : (version : BookVersion) (b c : Timed) (line text : List ℕ) → Answers version b line text c
     → (one : Answered) × (line_of one ≡ line) × (answer_of one ≡ text) × AnswersEach version b (one ∷ []) c
 its_answer version b c line text (inl accepts) = (Accepted line text, refl, refl, (c, accepts, refl))

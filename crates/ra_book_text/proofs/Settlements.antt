@@ -29,7 +29,7 @@ pub lossless : (books : List BookState) → All IsRead books → all_lost books 
 lossless [] each = refl
 lossless (b ∷ books) each = (λ i. none_lost b.sent (All-head IsRead b books each).kept i ++ lossless books (All-tail IsRead b books each) i)
 
--- ---- What comes of settling
+-- ---- The outcome of settling
 
 is_ok : (r : Result Settled SettleError) (settled : Settled) → r ≡ Ok settled → r ≡ Err NotSent → ⊥
 is_ok r settled ok err = cc

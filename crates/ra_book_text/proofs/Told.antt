@@ -61,7 +61,7 @@ one_event law line (kinds.Receive f) (kinds.Receive e) (digits, form, (bytes, ha
     let one : bytes ≡ bytes' = cc in
     ap kinds.Receive (law bytes' f e (subst (λ (bs : List ℕ). IsFrameText bs f) one is) is')
 
--- the event of a line that has digits is a frame that they stand for
+-- the event of a line that has digits is the arrival of a frame that they spell
 its_digits : (line : List ℕ) (kind : BookKind) (digits : List ℕ) → IsEvent line kind → HasForm line (Receive digits) → (frame : Frame) × IsFrameOf digits frame
 its_digits line (kinds.Ask c n m) digits g form = absurd (ask_no_receive line c n digits m g form)
 its_digits line (kinds.Leave c n) digits g form = absurd (leave_no_receive line c n digits g form)

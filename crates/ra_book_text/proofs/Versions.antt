@@ -11,7 +11,7 @@ reads_append [] ms v a b g h = subst (λ (x : BookVersion). AreReadIn x ms b) g 
 reads_append (l ∷ ls) ms v a b (inl (u, node, nodes, start, is, rest)) h = inl (u, node, nodes, start, is, reads_append ls ms u a b rest h)
 reads_append (l ∷ ls) ms v a b (inr (kind, is, rest)) h = inr (kind, is, reads_append ls ms v a b rest h)
 
--- one more line, which begins a book, or is an event
+-- another line, which begins a book, or is an event
 pub reads_first : (lines : List (List ℕ)) (line : List ℕ) (v a b : BookVersion) (node nodes start : ℕ) → AreReadIn v lines a → IsFirst line b node nodes start
     → AreReadIn v (lines ++ line ∷ []) b
 reads_first lines line v a b node nodes start g is = reads_append lines (line ∷ []) v a b g (inl (b, node, nodes, start, is, refl))

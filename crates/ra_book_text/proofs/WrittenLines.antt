@@ -49,7 +49,7 @@ free = All-weaker (λ b. (b == 10) ≡ false) (λ b. b ≢ 10) (λ b h. grind (a
 high_byte : (b : ℕ) → nat_lt 10 b ≡ true → b ≢ 10
 high_byte b h = grind (arith, nat_tests)
 
--- a text all of whose bytes are above 10
+-- a text whose bytes are all above 10
 high : (bytes : List ℕ) → AllPass (nat_lt 10) bytes → HasNoFeed bytes
 high = All-weaker (λ b. nat_lt 10 b ≡ true) (λ b. b ≢ 10) high_byte
 

@@ -23,8 +23,7 @@ abbrev pub version_text : BookVersion → List ℕ
 version_text One = codes "book 1"
 version_text Two = codes "book 2"
 
--- the first line: the version, the number of the node, how many nodes there are, and the number with which each
--- resource begins
+-- the first line: the version, the number of the node, how many nodes there are, and the number with which each resource begins
 abbrev pub first_text : BookVersion → ℕ → ℕ → ℕ → List ℕ
 first_text version node nodes start =
     version_text version ++ field (decimal node) ++ field (decimal nodes) ++ field (decimal start)
@@ -65,15 +64,15 @@ IsForm (Receive digits) = Unit {0}
 abbrev pub HasForm : List ℕ → Form → Type 0
 HasForm line form = (length line ≤ 256) × IsForm form × (line ≡ form_text form)
 
--- the digits, in either case, stand for these bytes
+-- the digits, in either case, spell these bytes
 abbrev pub HasBytes : List ℕ → List ℕ → Type 0
 HasBytes digits bytes = decode_of digits ≡ Ok bytes
 
--- the digits stand for the text of this frame, in version 1 or 2
+-- the digits spell the text of this frame, in version 1 or 2
 abbrev pub IsFrameOf : List ℕ → Frame → Type 0
 IsFrameOf digits frame = (bytes : List ℕ) × HasBytes digits bytes × IsFrameText bytes frame
 
--- why digits do not stand for the text of a frame: they stand for no bytes, or the bytes have this fault
+-- why digits do not spell the text of a frame: they spell no bytes, or the bytes have this fault
 abbrev pub IsNoFrame : List ℕ → Refusal → Type 0
 IsNoFrame digits Hex = (bytes : List ℕ) → HasBytes digits bytes → ⊥
 IsNoFrame digits (Faulty fault) = (bytes : List ℕ) × HasBytes digits bytes × (first_fault bytes ≡ Some fault)

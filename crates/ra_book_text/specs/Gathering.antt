@@ -23,7 +23,7 @@ use Rattle.ra_book_text.specs.Verdicts.{IsFirstAgain, IsFirstUnsent, IsWrongLine
 
 -- ---- An event
 
--- the book has one more event of this kind, and is a history
+-- the book has another event of this kind, and is a history
 abbrev pub HasTaken : BookState → BookKind → BookState → Type 0
 HasTaken old kind new = (clock : ℕ) × (frames : List Frame) × (new ≡ with_event old clock kind frames) × HasHistory new
 

@@ -1,4 +1,4 @@
--- The verdict on a text of books: when it settles, and otherwise what is wrong with it, and at which line.
+-- The verdict on a text of books: when it settles, and otherwise what is wrong with it at which line.
 use Rattle.std.specs.Prelude.{◌≡◌, ◌≢◌, ◌⊎◌, ℕ, ◌+◌, ◌≤◌, Bool, false, List, [], ◌∷◌, ◌++◌, All, AllPairs, Contains, MatchBool, map, length}
 use Rattle.std.specs.List.{Any}
 use Rattle.ra_stamp.specs.declared.message.Message.{Message}
@@ -62,7 +62,7 @@ pub record IsWrongAt (text : List ℕ) (number : ℕ) (why : TextCause) : Type 0
   pub right : AreRight before books
   pub wrong : IsWrongLine right.version books line why
 
--- ---- A text all of whose lines are right
+-- ---- A text whose lines are all right
 
 -- they are not all books of a cluster: they are not as many as its nodes, or a node has none
 abbrev pub IsMissing : List BookState → Type 0
@@ -92,7 +92,7 @@ pub record IsFirstAgain (came : List Came) (number : ℕ) : Type 0 where
   pub again : Contains (messages_of before) this.frame.message
   pub once : AllPairs (λ a b. a ≢ b) (messages_of before)
 
--- What is wrong with a text, and at which line: the first of these, in this order. A line is wrong, or there is none;
+-- What is wrong with a text at which line: the first of these, in this order. A line is wrong, or there is no line;
 -- after the last line a book is missing; a frame comes that was not sent; a message comes again, if no message may.
 abbrev pub IsWrong : (repeats : Bool) → List ℕ → ℕ → TextCause → Type 0
 IsWrong repeats text number cause.Line = (HasNoFeed text × (number ≡ 1)) ⊎ IsWrongAt text number cause.Line
@@ -142,7 +142,7 @@ pub record IsRunOf (ordered : List BookState) (settled : Settled) : Type 0 where
   pub order : IsSettledOrder ordered placed
   pub in_order : settled.steps.items ≡ settled_steps ordered placed
 
--- the same of the settled run with copies of these books, to which only frames came that were sent
+-- the same about the settled run with copies of these books, if only frames came that were sent
 pub record IsRunWithCopiesOf (ordered : List BookState) (settled : Settled) : Type 0 where
   pub sent : HasUnsent ordered → ⊥
   pub moves : List Move
@@ -161,7 +161,7 @@ pub record IsSettledBy (repeats : Bool) (ordered : List BookState) (text : Settl
   pub start_is : text.start ≡ start_of ordered
   pub run_is : IsRunBy repeats ordered text.settled
 
--- the text has all books of a cluster, each a history, and this is the run into which they settle
+-- the text has all books of a cluster, each a history, and this is the run that they settle into
 pub record IsSettledText (repeats : Bool) (input : List ℕ) (text : SettledText) : Type 0 where
   pub lines : List (List ℕ)
   pub books : List BookState

@@ -1,5 +1,5 @@
--- How a book is written: its first line, and a line for each event in order. What was sent and what became of it is in
--- no line.
+-- How a book is written: its first line, and a line for each event in order. What was sent, and what happened to it, is
+-- in no line.
 use Rattle.std.specs.Prelude.{◌≡◌, ℕ, List, ◌∷◌, [], ◌++◌, map}
 use Rattle.std.specs.List.{AllZip}
 use Rattle.hex.specs.Hex.{encode_lower}

@@ -134,10 +134,10 @@ fn answer_from<B: BufRead, W: Write>(
     }
 }
 
-/// Reads a book, hands each event to its node, and writes the answer to each line. The answer is `ok` to the first
-/// line. To an event it is a line `send TO HEX` for each frame, the lines of its marks, and `ok`. Or it is `refused`
-/// and a word, after which the node is as before. What is answered is written and passed on before more input is waited
-/// for; while the reader shows more, it need not be. A last line without a line feed is not answered.
+/// Reads a book, hands each event to its node, and writes the answer to each line. The answer to the first line is
+/// `ok`. The answer to an event is a line `send TO HEX` for each frame, the lines of its marks, and `ok`. Or it is
+/// `refused` and a word, and the node is as before. What is answered is written and passed on before more input is
+/// waited for; while the reader shows more, it need not be. A last line without a line feed is not answered.
 ///
 /// It keeps the node and its clock, at most 256 bytes of a line, and up to 16,384 bytes of answers. A line that is
 /// refused for lack of memory can come again. It reads at most 2^64 - 1 lines, and as many pieces of each.

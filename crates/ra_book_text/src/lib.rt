@@ -1,7 +1,7 @@
 //! Books: what was handed to a node, as text. [`answer_book`] reads a book line by line, hands each event to a node,
 //! and writes what the node answers. So a program in any language can drive a node over any carrier. [`settle_text`]
 //! reads the books of all nodes in one text, one after the other, and settles them into the one run of the cluster that
-//! they record; or it says at which line they are wrong, and why.
+//! they record; or it says which line is wrong, and why.
 #![tactic(auto)]
 
 mod answering;

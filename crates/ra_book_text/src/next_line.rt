@@ -40,7 +40,7 @@ impl Input {
     }
 }
 
-/// Reads the next line in place of the one that is there, and returns whether there is one. What waits to be written is
+/// Reads the next line in place of the present one, and returns whether there is one. What waits to be written is
 /// written before the reader is asked for more than it shows. It does not allocate.
 ///
 /// # Errors

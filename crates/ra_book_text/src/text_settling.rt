@@ -21,7 +21,7 @@ use crate::{SettleTextError, TextCause};
 use ra_book::{Book, SettleError, Settled, is_cluster, settle, settle_with_copies};
 use std::alloc::Global;
 
-/// The one run into which the books of a text settle.
+/// The one run that the books of a text settle into.
 #[derive(Drop)]
 pub struct SettledText {
     /// How many nodes there are.
@@ -94,8 +94,8 @@ fn settle_ordered(
     }
 }
 
-/// Settles the books that were gathered from a text, in which the line after the last one would have this number, with
-/// what came to them. It puts them in the order of their nodes, which takes no memory. They are borrowed, so that each
+/// Settles the books that were gathered from a text, with what came to them. The line after the last one would have
+/// this number. It puts the books in the order of their nodes, which takes no memory. They are borrowed, so that each
 /// is dropped in one place only.
 ///
 /// # Errors
@@ -130,7 +130,7 @@ fn settle_books(
     settle_ordered(alloc, ordered, came, repeats)
 }
 
-/// Settles the books that were gathered from a text, in which the line after the last one would have this number.
+/// Settles the books that were gathered from a text. The line after the last one would have this number.
 ///
 /// # Errors
 ///
@@ -188,10 +188,9 @@ fn settle_lines(alloc: Global, text: &[u8], repeats: bool) -> Result<SettledText
 ///
 /// 1. `Invalid` with `Line`, `Books` or `Refused`, at the first wrong line. Without a line it is `Line` at line 1.
 /// 2. `Invalid` with `Books`, at the number of lines plus 1: the book of a node is missing.
-/// 3. `Invalid` with `NotSent`, at the first line by which a frame comes that is not among those that its sender's book
+/// 3. `Invalid` with `NotSent`, at the first line that brings a frame that is not among those that its sender's book
 ///    sent with its clock.
-/// 4. `Invalid` with `Twice`, without `repeats`, at the first line by which a message comes that came by an earlier
-///    line.
+/// 4. `Invalid` with `Twice`, without `repeats`, at the first line that brings a message that an earlier line brought.
 /// 5. `Memory`: it ran out at a line that is right, and no line after it was looked at; or it ran out after all lines,
 ///    and then no book is missing and each frame that came was sent.
 pub fn settle_text(

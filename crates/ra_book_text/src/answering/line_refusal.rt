@@ -4,7 +4,7 @@ ghost use Rattle.ra_book_text.specs.Answers as spec;
 use ra_book::BookError;
 use ra_frame::FrameError;
 
-/// Why a line of a book is refused, in the order in which the causes are looked for.
+/// Why a line of a book is refused. The causes are looked for in this order.
 #[derive(Clone, Copy)]
 pub enum Refusal {
     /// It has none of the forms of lines in the version of its book, or more than 256 bytes.
@@ -17,7 +17,7 @@ pub enum Refusal {
     Event(BookError),
 }
 
-/// Returns the line with which a line is refused. It does not allocate.
+/// Returns the line that answers a refused line. It does not allocate.
 pub fn refused_line(why: Refusal) -> &'static str
     ensures text { result.now ≡ spec.refused_line why }
     ensures short { length result.now ≤ 40 }

@@ -19,7 +19,7 @@ pub struct Output {
 }
 
 impl Output {
-    /// Makes one in which nothing waits.
+    /// Makes one with nothing waiting.
     pub fn new() -> Output
         ensures waiting { result.waiting.items ≡ [] }
         ensures failed { result.failed ≡ false }

@@ -14,7 +14,7 @@ pub enum BookVersion {
 }
 
 impl BookVersion {
-    /// Returns the words with which a book of this version begins. It does not allocate.
+    /// Returns the words that begin a book of this version. It does not allocate.
     pub fn words(self) -> &'static str
         ensures { result.now ≡ version_text self }
     {

@@ -13,10 +13,10 @@ use ra_trace::rest_after;
 /// The most bytes that a line has, without its line feed.
 pub const MAX_LINE: usize = 256;
 
-/// The most bytes that the digits of a line stand for.
+/// The most bytes that the digits of a line spell.
 const MAX_BYTES: usize = MAX_LINE / 2;
 
-/// Returns the event that digits are, after `receive `: the frame whose text they stand for comes. It does not
+/// Returns the event of digits after `receive `: the frame whose text they spell comes. It does not
 /// allocate.
 ///
 /// # Errors

@@ -9,7 +9,7 @@ use ra_book::{Book, was_sent};
 use ra_stamp::{Memory, Message, Messages};
 use std::alloc::Global;
 
-/// Returns the number of the first line by which a frame comes that was not sent, or that is flagged lost, or `None`.
+/// Returns the number of the first line that brings a frame that was not sent, or is flagged lost, or `None`.
 /// The cost of each frame is logarithmic.
 pub fn first_unsent(books: &[Book], came: &[Came]) -> Option<u64>
     requires { IsCluster books.now }
@@ -48,8 +48,8 @@ fn again_among(alloc: Global, bag: &mut Bag, came: &[Came]) -> Result<Option<u64
     Ok(None)
 }
 
-/// Returns the number of the first line by which a message comes again, or `None`. The cost of each frame is constant
-/// on average. If there is no memory to know where each message is in the bag, all before it are looked through.
+/// Returns the number of the first line that brings a message again, or `None`. The cost of each frame is constant
+/// on average. If there is no memory to index the messages of the bag, all before it are looked through.
 ///
 /// # Errors
 ///

@@ -4,7 +4,7 @@ use std::alloc::AllocError;
 use std::fmt;
 use thiserror::Error;
 
-/// Why a text of books does not settle, in the order in which the causes are looked for.
+/// Why a text of books does not settle. The causes are looked for in this order.
 #[derive(Clone, Copy, Debug, PartialEq, Eq)]
 pub enum TextCause {
     /// The line has none of the forms of lines, or more than 256 bytes; or the text does not begin with the first line

@@ -4,7 +4,7 @@ use Rattle.ra_book_text.proofs.Lines.{begun}
 use Rattle.ra_book_text.proofs.Outcome.{lacks_memory, unread_by}
 use Rattle.ra_book_text.proofs.text_settling.read_books.read_books.Goals as goal
 
--- the first line is none of a book
+-- the first line does not begin a book
 pub returns-in_default-parse : goal.returns-in_default-parse
 returns-in_default-parse c =
     let text = c.args.text.now in
