@@ -174,7 +174,7 @@ none_looked_at nodes left losing many = record {
   none = All-nil (λ (f : Frame). IsReached nodes f → ⊥);
 }
 
--- one more was looked at
+-- another one was looked at
 pub one_looked_at : (nodes : List ProgressState) (left : ℕ) (old new : LossState) → 0 < left → AreLookedAt nodes left old.losing → LooksAtFirst nodes old new → AreLookedAt nodes (left - 1) new.losing
 one_looked_at nodes left old new some looked at = of looked.first looked.left_is looked.losing_is at
   where

@@ -142,7 +142,7 @@ module _ (p q : ProgressState) (is : q ≡ record p { waiting = p.waiting ++ p.k
   handed_as : handed_over q ≡ handed_over p
   handed_as = ap handed_over is ∙ append-nil (p.settled ++ (p.waiting ++ p.kept)) ∙ sym (append_assoc p.settled p.waiting p.kept)
 
-  -- what was kept was taken, and then this came of what the site has
+  -- what was kept was taken, and then this is the outcome of what the site has
   pub took_kept : (r : ProgressState) (handed : List Frame) (answer : Result (Unit {0}) TakeError) → TakesOver q r handed answer → TakesOver p r handed answer
   took_kept r handed answer t = record {
     goes_on = from_further p q r (from_kept p q is) t.goes_on;
@@ -162,7 +162,7 @@ module _ (p q : ProgressState) (is : q ≡ record p { waiting = p.waiting ++ p.k
   kept_next : KeptAreNext q
   kept_next = subst (λ (es : List BookEvent). AreNextAt q.node (clock_of (taken_of q)) es) (sym none_kept) tt
 
-  -- its clock is that after which the site is asked
+  -- the site is asked for what comes after its clock
   pub asked_after : (clock : ℕ) → clock ≡ clock_of (taken_of q) → clock ≡ clock_of (handed_over q)
   asked_after clock at = at ∙ ap clock_of (sym (append-nil (taken_of q)) ∙ ap (λ (es : List BookEvent). taken_of q ++ es) (sym none_kept))
 
@@ -355,7 +355,7 @@ module _ (a b c : AuditState) (place : ℕ) (within : place < length b.nodes) (f
         audited = second.audited;
       }
 
-  -- the last node of which something was taken, or nothing
+  -- the last node from which something was taken, or nothing
   pub took_last : TakesMore a c
   took_last =
       let at = second.at_node (omega (arith, within)) in
@@ -512,7 +512,7 @@ length_of w nodes a = sym (length-map nodes (λ (p : ProgressState). p.node)) �
 
 -- ---- A round
 
--- in which nothing was done
+-- a round that did nothing
 pub audits_nothing : (old : AuditState) (told : List Mark) → IsAudited old.world old.nodes → HasLost old.world.moves old.lost → AllWereSent old.nodes old.world.moves old.lost
     → Audits old told old told
 audits_nothing old told audited lost sent = record {

@@ -192,7 +192,8 @@ misfit_at w nodes place p fault within at node is ready misfit = record {
   misfit = misfit;
 }
 
--- a frame whose sender is found can be put exactly if its clock is not above that of the sender's last settled event
+-- a frame whose sender is found can be put exactly if its clock is not above the clock of the sender's last settled
+-- event
 pub due_of_some : (nodes : List ProgressState) (kind : BookKind) (frame : Frame) (n place clock : ℕ) (p : ProgressState) → map (λ p. p.node) nodes ≡ range_with_len 1 n → place + 1 ≡ from_of frame.message
     → true ≡ ltb place (length nodes) → p ≡ get_or nodes place p → clock ≡ clock_of p.settled → kind ≡ Receive frame
     → (IsTrue (leb frame.clock clock) → IsDue nodes kind) × (IsDue nodes kind → IsTrue (leb frame.clock clock))
@@ -266,7 +267,7 @@ misfit_of w new nodes nodes' place p node e refused answer result step result_is
     (subst (λ (v : WorldState). IsMisfit v nodes' f) (sym same)
     (subst (λ (ns : List ProgressState). IsMisfit w ns f) (sym same_nodes) (misfit_at w nodes place p f within at (sym number) is ready no_step)))
 
--- an event that does not fit, and of which nothing was tried
+-- an event that does not fit, and was not tried
 pub misfit_now : (w : WorldState) (nodes nodes' : List ProgressState) (place : ℕ) (p : ProgressState) (node : ℕ) (e : BookEvent) → nodes' ≡ nodes → place < length nodes → p ≡ get_or nodes place p
     → node ≡ p.node → slice_get p.waiting 0 ≡ Some e → IsReady nodes p → (FitsRun w nodes node e.kind → ⊥)
     → (fault : AuditFault) → ◌≡◌ {A = Result (Unit {0}) AuditError} (Err (Fault (record { node = node; event = e }))) (Err (Fault fault)) → IsMisfit w nodes' fault

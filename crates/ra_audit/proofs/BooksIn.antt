@@ -27,7 +27,7 @@ all_in nodes books place past count so_far = record {
   all = λ i p b np nb. so_far i (omega (arith, slice_get_within nodes i p np, past)) p b np nb;
 }
 
--- a place at which not all is in the run, as it is at all places before it
+-- the first place at which not everything is in the run
 pub first_not_all_in : (nodes : List ProgressState) (books : List BookState) (place : ℕ) (x : ProgressState) (y : BookState) (node : ℕ) → place < length nodes → place < length books
     → x ≡ get_or nodes place x → y ≡ get_or books place y → node ≡ x.node → (IsAllIn x y → ⊥)
     → ((i : ℕ) → i < place → IsAllInAt nodes books i) → IsFirstNotAllIn nodes books node

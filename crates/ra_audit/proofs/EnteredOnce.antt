@@ -111,7 +111,7 @@ all_apart (Entered e ∷ marks) once = (
 
 -- ---- In any order
 
--- where the element at a place comes from, if those at two places are exchanged
+-- the old place of the element at a place, if the elements at two places are exchanged
 abbrev Goes : ℕ → ℕ → ℕ → ℕ → Type 0
 Goes a b k m = ((k ≡ a) × (m ≡ b)) ⊎ (((k ≢ a) × (k ≡ b) × (m ≡ a)) ⊎ ((k ≢ a) × (k ≢ b) × (m ≡ k)))
 

@@ -24,7 +24,7 @@ any_left P xs ys h = (h.0, h.1, omega (arith, h.2, length-append xs ys), get_or_
 any_right : (P : ProgressState → Type 0) (xs ys : List ProgressState) → Any P ys → Any P (xs ++ ys)
 any_right P xs ys h = (length xs + h.0, h.1, omega (arith, h.2, length-append xs ys), get_or-append-add xs ys h.0 h.1 ∙ h.3, h.4)
 
--- none waits first at a node at which none waits
+-- no event waits first at a node if no event waits there
 no_first : (P : BookEvent → Type 0) (p : ProgressState) → p.waiting ≡ [] → (event : BookEvent) → slice_get p.waiting 0 ≡ Some event → P event
 no_first P p none event is = absurd (none-some event (sym (ap (λ (es : List BookEvent). slice_get es 0) none) ∙ is))
 

@@ -20,17 +20,17 @@ module _ {X : Type 0} where
   middle xs ys x =
       subst (λ (l : List X). IsPermutation l (x ∷ xs ++ ys)) (append_assoc xs (x ∷ []) ys) (IsPermutation-append_left ys (xs ++ x ∷ []) (x ∷ xs) (IsPermutation-to_front xs x))
 
-  -- one more on both sides
+  -- another one on both sides
   both_more : (all xs ys : List X) (x : X) → IsPermutation all (xs ++ ys) → IsPermutation (all ++ x ∷ []) (x ∷ xs ++ ys)
   both_more all xs ys x same = IsPermutation-trans (all ++ x ∷ []) (x ∷ all) (x ∷ xs ++ ys) (IsPermutation-to_front all x) (IsPermutation-cons x all (xs ++ ys) same)
 
-  -- one of those that are left over is there now
+  -- one of those that are left over occurs now
   one_less : (all xs ys zs : List X) (x : X) → IsPermutation all (xs ++ ys) → IsPermutation ys (x ∷ zs) → IsPermutation all (x ∷ xs ++ zs)
   one_less all xs ys zs x same less =
       IsPermutation-trans all (xs ++ ys) (x ∷ xs ++ zs) same
       (IsPermutation-trans (xs ++ ys) (xs ++ x ∷ zs) (x ∷ xs ++ zs) (IsPermutation-append_right xs ys (x ∷ zs) less) (middle xs zs x))
 
-  -- one more is left over
+  -- another one is left over
   one_over : (all xs ys zs : List X) (x : X) → IsPermutation all (xs ++ ys) → IsPermutation (x ∷ ys) zs → IsPermutation (all ++ x ∷ []) (xs ++ zs)
   one_over all xs ys zs x same more =
       IsPermutation-trans (all ++ x ∷ []) (x ∷ xs ++ ys) (xs ++ zs) (both_more all xs ys x same)
@@ -75,7 +75,7 @@ pub is_as : (told told' : List Mark) (grants grants' : List Grant) (waiting wait
     → IsMatcher (state told grants waiting left forgot) → IsMatcher (state told' grants' waiting' left' forgot)
 is_as told told' grants grants' waiting waiting' left left' forgot t g w l is = subst IsMatcher (λ i. state (sym t i) (sym g i) (sym w i) (sym l i) forgot) is
 
--- what is there after a push that failed, and after one that did not
+-- the list after a push that failed, and after one that did not
 pub not_pushed : {A E : Type 0} (xs ys : List Entry) (x : Entry) (r : Result A E) → ys ≡ (if is_ok r then xs ++ x ∷ [] else xs) → is_err r ≡ true → ys ≡ xs
 not_pushed xs ys x (Ok u) is failed = absurd (true≢false (sym failed))
 not_pushed xs ys x (Err e) is failed = is
@@ -194,7 +194,7 @@ module _ (told : List Mark) (grants : List Grant) (waiting left : List Entry) (f
     no_mark = λ there. is.apart e waits (subst (λ (es : List Entry). Contains es e) (ap (λ (es : List Entry). left ++ es) (is.all_kept kept) ∙ append-nil left) there);
   }
 
--- ---- What becomes of a grant and of a mark
+-- ---- What happens to a grant and to a mark
 
 pub takes_matched : (old new : MatcherState) (g : Grant) → Contains old.left g.entry → IsPermutation old.left (g.entry ∷ new.left)
     → new ≡ record old { grants = old.grants ++ g ∷ []; left = new.left } → TakesGrant old g new

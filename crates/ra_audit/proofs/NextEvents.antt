@@ -42,7 +42,7 @@ module _ (kept : Inside) (p : ProgressState) (view_is : progress_of kept ≡ p) 
       of [] all = tt
       of (e ∷ waiting) all = next_for p.node 0 p.settled e waiting all
 
--- one that waited is in the run, and nothing else changed
+-- an event that waited is in the run, and nothing else changed
 pub kept_put : (old new : Inside) (e : BookEvent) → IsKeptProgress old → old.waiting.items ≡ e ∷ new.waiting.items → new.settled.items ≡ old.settled.items ++ e ∷ []
     → new.node ≡ old.node → new.latest ≡ old.latest → new.clock ≡ e.clock → IsKeptProgress new
 kept_put old new e k waiting settled node latest clock =
@@ -113,7 +113,7 @@ pub after_frame : (node clock : ℕ) (e : BookEvent) (frame : Frame) → IsNextA
 after_frame node clock e frame next came =
     let is : e.clock ≡ max clock frame.clock + 1 = next.clock_is ∙ ap (clock_after clock) came in omega (arith, is)
 
--- the clock of no event is between that of the last settled one and that of the first one that waits
+-- no event has a clock between the last settled event's and the first waiting event's
 pub none_between : (node clock : ℕ) (settled waiting : List BookEvent) → AreNextAt node 0 (settled ++ waiting) → clock_of settled < clock
     → ((e : BookEvent) → slice_get waiting 0 ≡ Some e → clock < e.clock) → All (λ e. e.clock ≢ clock) (settled ++ waiting)
 none_between node clock settled waiting all low high =

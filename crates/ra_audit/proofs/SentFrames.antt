@@ -48,7 +48,7 @@ goes_out clock messages message (k, low, is) = (
       ∙ ap (frame_of clock) is,
 )
 
--- one more event sends its frames after those of the others
+-- another event sends its frames after the frames of the others
 pub sent_more : (happened : List Happening) (events : List BookEvent) (h : Happening) (e : BookEvent) → length happened ≡ length events
     → frames_sent (happened ++ h ∷ []) (events ++ e ∷ []) ≡ frames_sent happened events ++ frames_at e.clock h.sends
 sent_more [] [] h e same = append-nil (frames_at e.clock h.sends)

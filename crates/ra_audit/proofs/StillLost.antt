@@ -21,7 +21,7 @@ some_is_none : (f : Frame) (fs : List Frame) → ◌≡◌ {A = List Frame} (f �
 some_is_none f fs is = cc
 
 module _ (s : Sent) (sent : List Sent) where
-  -- there is none among these, so the first one is not
+  -- none of these is lost, so the first one is not
   first_is_not : lost_frames (s ∷ sent) ≡ [] → s.lost ≡ false
   first_is_not none = of s.lost refl
     where

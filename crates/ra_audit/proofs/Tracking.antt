@@ -46,7 +46,7 @@ received_more events e =
 
 -- ---- Messages under way
 
--- one more move
+-- another move
 module _ (known : MessagesAreKnown) (n start : ℕ) (nodes nodes' : List ProgressState) (moves : List Move) (move : Move) (flights flights' : FlightState) (clock : ℕ)
     (count : IsNodeNumber n) (run : IsRun n start (moves ++ move ∷ [])) (unrepeated : repeated_by (moves ++ move ∷ []) ≡ [])
     (tracked : IsTracked nodes moves flights) (none : flights.last ≡ []) (after : FliesAfter flights (taken_in move.step) clock move.sends flights')
@@ -179,7 +179,7 @@ fits_run w nodes flights node kind tracked goes fly = record {
 pub noted_fly : (flights : FlightState) (kind : BookKind) → AreNoted flights (frames_in kind) → Fly flights kind
 noted_fly flights kind noted = All-weaker (λ f. IsNoted flights f.message f.clock) (λ f. HasClock flights f.message f.clock) (λ f is. inl is) (frames_in kind) noted
 
--- the next event of the node at this place, which is due, is one with which the run can go on
+-- the next event of the node at this place, which is due, can continue the run
 pub can_go_on : (w new : WorldState) (nodes nodes' : List ProgressState) (flights : FlightState) (place : ℕ) (p : ProgressState) (node : ℕ) (e : BookEvent) (step : Step)
     → new ≡ w → nodes' ≡ nodes → place < length nodes → p ≡ get_or nodes place p → node ≡ p.node → slice_get p.waiting 0 ≡ Some e → IsReady nodes p
     → step ≡ step_at node e.kind → GoesOn w.count w.start w.moves step → IsTracked nodes w.moves flights → Fly flights e.kind → CanGoOn new nodes'

@@ -1,4 +1,4 @@
--- What is under way after one more move, of messages that are all different.
+-- What is under way after one more move, if all messages are different.
 use Rattle.std.proofs.Common.{◌≡◌, ◌≢◌, ◌⊎◌, ℕ, suc, ◌+◌, List, [], ◌∷◌, ◌++◌, length, get_or, refl, sym, ap, ◌∙◌, subst, inl, inr, arith}
 use Rattle.std.specs.Prelude.{◌↔◌, All, AllPairs, Contains}
 use Rattle.std.proofs.lemmas.List.{append-nil, length-append, get_or_append_left, get_or-append-add}
@@ -50,7 +50,7 @@ left_different old (m ∷ taken) new (next, takes, rest) different =
     let whole : AreDifferent (takes.prefix ++ m ∷ takes.suffix) = subst AreDifferent takes.old_is different in
     left_different next taken new rest (subst AreDifferent (sym takes.new_is) (different_but_one takes.prefix takes.suffix m whole))
 
--- without one of different messages, the others are there
+-- the others stay if one of several different messages is taken out
 module _ (prefix suffix : List Message) (m x : Message) (different : AreDifferent (prefix ++ m ∷ suffix)) where
   still_there : Contains (prefix ++ m ∷ suffix) x → (m ≢ x) → Contains (prefix ++ suffix) x
   still_there at apart =

@@ -37,8 +37,8 @@ use Rattle.ra_site.specs.Losses.{lost_frames}
 
 -- ---- What an auditor knows
 
--- Of a node: its number, its events that are in the run, the events after those that were taken from its book and can't
--- be put into the run yet, and the events after these that its book handed over and that are not taken yet.
+-- A node's number, its events that are in the run, then the events that were taken from its book and can't be put into
+-- the run yet, and then those that its book handed over and that are not taken yet.
 pub record ProgressState : Type 0 where
   pub node : ℕ
   pub settled : List BookEvent
@@ -57,9 +57,9 @@ handed_over p = taken_of p ++ p.kept
 abbrev pub fresh_progress : ℕ → ProgressState
 fresh_progress node = record { node = node; settled = []; waiting = []; kept = [] }
 
--- The run so far, as a world that made its steps; and how far each node's events are in it. Of the frames that were
--- noted as lost: those whose loss is still to be put into the run, and those whose loss is in it, in its order. And
--- what did not fit, if anything did not.
+-- The run so far, as a world that made its steps; how far each node's events are in it; the frames noted as lost whose
+-- loss has yet to be put into the run; those whose loss is in it, in its order; and what did not fit, if anything did
+-- not.
 pub record AuditState : Type 0 where
   pub world : WorldState
   pub nodes : List ProgressState
@@ -96,7 +96,7 @@ abbrev pub HasSettled : List Move → ProgressState → Type 0
 HasSettled moves p = map (λ h. h.event) (happened_at p.node moves) ≡ map (λ e. node_event e.kind) p.settled
 
 -- The moves are a run of these nodes in which nothing was repeated. What happened in it at each node are the settled
--- events, which are the first of those that were taken from the node.
+-- events: the first ones that were taken from the node.
 pub record IsAudited (world : WorldState) (nodes : List ProgressState) : Type 0 where
   pub count : IsNodeNumber world.count
   pub run : IsRun world.count world.start world.moves
@@ -104,7 +104,7 @@ pub record IsAudited (world : WorldState) (nodes : List ProgressState) : Type 0 
   pub events : All (HasSettled world.moves) nodes
   pub unrepeated : repeated_by world.moves ≡ []
 
--- the messages that these moves lost are those of these frames, in order, and no others
+-- these moves lost the messages of these frames, in order, and no others
 abbrev pub HasLost : List Move → List Frame → Type 0
 HasLost moves lost = lost_by moves ≡ map (λ frame. frame.message) lost
 
@@ -200,8 +200,8 @@ pub record IsAuditorOf (cluster : ClusterState) (auditor : AuditState) : Type 0 
   pub count : auditor.world.count ≡ cluster.nodes
   pub start : auditor.world.start ≡ cluster.start
 
--- The run went on by some moves, whose marks were told in their order. Of each node the same events are taken and kept
--- as before.
+-- The run went on by some moves, and the observer was told their marks in order. The same events of each node are taken
+-- and kept as before.
 pub record Advances (old : WorldState) (nodes : List ProgressState) (told : List Mark) (new : WorldState)
     (nodes' : List ProgressState) (told' : List Mark) : Type 0 where
   pub audited : IsAudited new nodes'
@@ -250,7 +250,7 @@ AllHandOver (old ∷ olds) (new ∷ news) (lost ∷ handed) = HandsOver old new 
 abbrev pub NoneIsKept : List ProgressState → Type 0
 NoneIsKept nodes = All (λ p. p.kept ≡ []) nodes
 
--- Further events were taken of nodes, and the frames that their sites handed over as lost are still to be lost, after
+-- Further events were taken from nodes, and the frames that their sites handed over as lost have yet to be lost, after
 -- the others. Nothing else has changed.
 pub record TakesMore (old new : AuditState) : Type 0 where
   pub taken : TakenGoOn old.nodes new.nodes
@@ -274,9 +274,9 @@ pub record PutsLosses (nodes : List ProgressState) (losing lost losing' lost' : 
   pub same : IsPermutation losing (put ++ losing')
   pub reached : All (IsReached nodes) put
 
--- A round of the audit of a cluster: further events were taken of its nodes. The frames that were noted as lost are
--- those that the nodes' sites handed over. The run went on by some moves, whose marks were told in their order, and by
--- some of the losses that were still to be put, those of these frames among them.
+-- A round of the audit of a cluster: further events were taken from its nodes. The nodes' sites handed over the frames
+-- that were noted as lost. The run went on by some moves, and the observer was told their marks in order. It also went
+-- on by some of the losses that had yet to be put, those of these frames among them.
 pub record Audits (old : AuditState) (told : List Mark) (new : AuditState) (told' : List Mark) : Type 0 where
   pub audited : IsAudited new.world new.nodes
   pub count : new.world.count ≡ old.world.count
@@ -299,8 +299,8 @@ pub record AuditsByAnswer {E : Type 0} (old : AuditState) (told : List Mark) (ne
 
 -- ---- What holds of the run
 
--- What the main theorem says of a run of n nodes, and that it is fair. A table is any table to which the marks of the
--- run lead.
+-- What the main theorem says of a run of n nodes, and that it is fair. A table is any table that the marks of the run
+-- lead to.
 pub record RunTheorem (n : ℕ) (moves : List Move) : Type 0 where
   -- the marks are a run of the lock table
   pub table_run : (table : LockTable) × TableRun (marks_of moves) table
@@ -349,10 +349,11 @@ KeptAreNext p = AreNextAt p.node (clock_of (taken_of p)) p.kept
 abbrev pub MayHandOver : ProgressState → ProgressState → List Frame → Type 0
 MayHandOver p q handed = (HandsNothing p q × (handed ≡ [])) ⊎ HandsOver p q handed
 
--- What is known of a node after its site handed over what has happened and these frames, which were lost, or nothing.
+-- What is known about a node after its site handed over what has happened and these lost frames, or nothing.
 -- It goes on from before, with the same events in the run. If the answer is Ok, the site handed over (`HandsOver`), and
 -- nothing is kept. If it is OutOfTurn, nothing is kept either, and nothing was handed over. It is NotNext exactly if
--- what is kept can't be the node's next events. Memory is the only other error, after which what is kept can be.
+-- what is kept can't be the node's next events. Memory is the only other error; then what is kept can be the next
+-- events.
 pub record TakesOver (p q : ProgressState) (handed : List Frame) (answer : Result (Unit {0}) TakeError) : Type 0 where
   pub goes_on : GoesOnFrom p q
   pub hands : MayHandOver p q handed
@@ -374,8 +375,8 @@ TakesHanded nodes losing node answer nodes' losing' =
     ⊎ AtNumber nodes node (λ p. (q : ProgressState) × (handed : List Frame) × TakesOver p q handed answer
     × (nodes' ≡ slice_set nodes (node - 1) q) × (losing' ≡ losing ++ handed))
 
--- Further events were taken of the node with this number, and the frames that its site handed over as lost are still to
--- be lost, after the others. Nothing else has changed.
+-- Further events were taken from the node with this number, and the frames that its site handed over as lost have yet
+-- to be lost, after the others. Nothing else has changed.
 pub record TakesMoreAt (old : AuditState) (number : ℕ) (new : AuditState) : Type 0 where
   pub taken : TakenGoOn old.nodes new.nodes
   pub handed : List Frame
@@ -436,7 +437,7 @@ pub record IsAhead (nodes : List ProgressState) (losing : List Frame) (frame : F
 abbrev pub clocks_taken : List ProgressState → List ℕ
 clocks_taken nodes = map (λ p. clock_of (taken_of p)) nodes
 
--- among these clocks that of the node with this number, or 0
+-- the clock of the node with this number among these, or 0
 abbrev pub clock_at : List ℕ → ℕ → ℕ
 clock_at clocks node = slice_index_or clocks (node - 1) 0
 
@@ -462,15 +463,15 @@ abbrev pub MayBePut : List ℕ → List ProgressState → ProgressState → Type
 MayBePut clocks nodes p = (event : BookEvent) → slice_get p.waiting 0 ≡ Some event
     → MayCome nodes (clock_at clocks p.node < event.clock) event.kind
 
--- The next event of the node is a frame that came, and no event of its sender has its clock: none that was taken has
--- it, and they go beyond it, or the frame was taken by the time at which the nodes had these clocks. In the second case
--- it is so if all events of the sender up to that time were taken since.
+-- The next event of the node is a frame that came, and no event of its sender has its clock: no event that was taken
+-- has it, and they go past it, or the frame was taken by the time at which the nodes had these clocks. The second case
+-- requires that all events of the sender up to that time have been taken since.
 pub record IsUnsent (clocks : List ℕ) (nodes : List ProgressState) (fault : AuditFault) : Type 0 where
   pub never_sent : IsNeverSent nodes fault
   pub sure : All (λ s. s.node ≡ from_of never_sent.frame.message
       → (never_sent.frame.clock < clock_of (taken_of s)) ⊎ (fault.event.clock ≤ clock_at clocks fault.node)) nodes
 
--- What a round of the audit of a cluster answers, and what it makes of the auditor and of the marks that were told.
+-- What a round of the audit of a cluster answers, and how it changes the auditor and the marks that were told.
 pub record AnswersRound (cluster : ClusterState) (old : AuditState) (told : List Mark) (new : AuditState)
     (told' : List Mark)
     (answer : Result (Unit {0}) RoundError) : Type 0 where

@@ -48,7 +48,7 @@ IsLeastOf nodes (Some fault) = IsLeastWaiting nodes fault
 abbrev pub AreTaken : List ProgressState → Type 0
 AreTaken nodes = All (λ p. AreNextAt p.node 0 (taken_of p)) nodes
 
--- none of the node's events has this clock, and they go beyond it, or it is so that none is still to come
+-- none of the node's events has this clock, and they go past it, or no such event can still come
 abbrev pub HasNone : ℕ → Type 0 → ProgressState → Type 0
 HasNone clock NoneComes s = All (λ e. e.clock ≢ clock) (taken_of s) × ((clock < clock_of (taken_of s)) ⊎ NoneComes)
 
@@ -59,8 +59,8 @@ IsOfNone nodes NoneComes kind = (frame : Frame) × (kind ≡ Receive frame)
 
 -- ---- Losses
 
--- Of the frames that were noted as lost: those whose loss is still to be put into the run, the last ones of them that
--- are not among those in turn yet, and those whose loss is in the run.
+-- The frames that were noted as lost: those whose loss has yet to be put into the run, the last ones of them that are
+-- not in turn yet, and those whose loss is in the run.
 pub record LossState : Type 0 where
   pub losing : List Frame
   pub noted : List Frame
@@ -70,7 +70,7 @@ pub record LossState : Type 0 where
 abbrev pub losses_of : LossesInside → LossState
 losses_of l = record { losing = l.losing.items ++ l.noted.items; noted = l.noted.items; lost = l.lost.items }
 
--- the count is that of the losses in the run
+-- the count is the number of losses in the run
 abbrev pub IsKeptLosses : LossesInside → Type 0
 IsKeptLosses l = l.count ≡ length l.lost.items
 
@@ -189,7 +189,7 @@ pub record NotesSome (old : Message → ℕ → Type 0) (messages : List Message
 
 -- ---- What is known of the run
 
--- What is known of the messages of runs without repeats: all are different, what happened at a node sent messages of
+-- What is known about the messages of runs without repeats: all are different, what happened at a node sent messages of
 -- that node, and after one more move a message is under way if it was before and was not taken, or if the move sent it.
 pub record MessagesAreKnown : Type 0 where
   pub different : (n start : ℕ) (moves : List Move) → IsNodeNumber n → IsRun n start moves → repeated_by moves ≡ []

@@ -31,9 +31,8 @@ pub record IsUnmatched (marks : List Mark) (grants : List Grant) (entry : Entry)
   pub is_waiting : Contains waiting entry
   pub no_mark : Contains others entry → ⊥
 
--- What a matcher knows: the marks that it was told, the grants that it was given, the requests of those of them that
--- wait for a mark, the requests of Entered marks that wait for a grant, and whether it has forgotten some of these
--- marks.
+-- What a matcher knows: the marks that it was told, the grants that it was given, the requests whose grants wait for a
+-- mark, the requests whose Entered marks wait for a grant, and whether it has forgotten some of these marks.
 pub record MatcherState : Type 0 where
   pub told : List Mark
   pub grants : List Grant
@@ -52,18 +51,18 @@ pub record IsMatcher (state : MatcherState) : Type 0 where
   pub all_kept : state.forgot ≡ false → forgotten ≡ []
   pub apart : AreApart state.waiting state.left
 
--- ---- What becomes of a grant and of a mark
+-- ---- What happens to a grant and to a mark
 
--- A grant was given. If marks of its request are kept, it is matched with one, which is kept no longer; which one does
--- not matter, since they are equal. Otherwise its request waits, after the others. Nothing else has changed.
+-- A grant was given. If marks of its request are kept, it is matched with one, which is then not kept any more; they
+-- are equal, so it does not matter which one. Otherwise its request waits, after the others. Nothing else has changed.
 pub record TakesGrant (old : MatcherState) (grant : Grant) (new : MatcherState) : Type 0 where
   pub matched : Contains old.left grant.entry → IsPermutation old.left (grant.entry ∷ new.left)
       × (new ≡ record old { grants = old.grants ++ grant ∷ []; left = new.left })
   pub waits : (Contains old.left grant.entry → ⊥)
       → new ≡ record old { grants = old.grants ++ grant ∷ []; waiting = old.waiting ++ grant.entry ∷ [] }
 
--- The Entered mark of this request was told. If grants of the request wait, it is matched with one, which waits no
--- longer. Otherwise the mark is kept, after the others, or forgotten. Nothing else has changed.
+-- The Entered mark of this request was told. If grants of the request wait, it is matched with one, which then does not
+-- wait any more. Otherwise the mark is kept, after the others, or forgotten. Nothing else has changed.
 pub record TakesEntered (old : MatcherState) (entry : Entry) (new : MatcherState) : Type 0 where
   pub matched : Contains old.waiting entry → IsPermutation old.waiting (entry ∷ new.waiting)
       × (new ≡ record old { told = old.told ++ Entered entry ∷ []; waiting = new.waiting })

@@ -84,7 +84,7 @@ pub enum CloseError {
     /// Its audit did not end.
     NotFinished(FinishError),
     /// The last event of this node's book has another clock than the node's last event in the run, or the book at its
-    /// place is that of another node.
+    /// place belongs to another node.
     Behind(NodeId),
     /// A book still has this frame flagged lost, so its loss is not in the run.
     StillLost(Frame),
@@ -102,7 +102,7 @@ pub enum BehindError {
     /// There are more or fewer books than nodes in the run.
     OtherCount,
     /// The last event of this node's book has another clock than the node's last event in the run, or the book at its
-    /// place is that of another node.
+    /// place belongs to another node.
     Behind(NodeId),
 }
 

@@ -40,7 +40,7 @@ use std::sync::Wait;
 /// Puts what happens at the nodes of a cluster together into one run while the nodes go on. From time to time each
 /// node's book hands over the events since the last time, which [`take`](Auditor::take) takes, and then
 /// [`advance`](Auditor::advance) puts all that it can into the run. So a cluster can run for long: an auditor keeps the
-/// nodes at the end of the run, the messages under way, and the events and losses that can't be put yet, and nothing of
+/// nodes at the end of the run, the messages under way, and the events and losses that can't be put yet, but nothing of
 /// the others.
 ///
 /// Contracts see the run so far, and of each node the events that were taken from it: first those that are in the run,
@@ -48,12 +48,12 @@ use std::sync::Wait;
 /// into the run, and those whose loss is in it.
 pub struct Auditor {
     world: MarklessWorld,
-    /// Of how many nodes the run is, and the start beyond which the numbers of requests begin.
+    /// How many nodes the run has, and the start that the numbers of requests begin after.
     count: u16,
     start: u64,
     /// By the nodes' numbers, from 1.
     nodes: Vec<NodeProgress>,
-    /// Of the messages under way, the clocks of the events that sent them.
+    /// The messages under way with the clocks of the events that sent them.
     flights: Flights,
     losses: Losses,
     fault: Option<AuditFault>,
@@ -97,7 +97,7 @@ impl Model for Auditor {
 impl Auditor {
     ghost use Rattle.ra_audit.specs.Audit.{IsAudited, HasLost, AllWereSent, NoneIsReady, NoneIsReached, CanBePut, IsMisfit, IsNotLost, Advances, PutsLosses, RunTheorem};
 
-    /// Makes the auditor of a cluster of this many nodes, in which nothing has happened yet. The highest number of each
+    /// Makes the auditor of a cluster of this many nodes. Nothing has happened in it yet. The highest number of each
     /// resource begins at `start`, 0 to 2^64-1. The cost is linear in the number of pairs of nodes.
     ///
     /// # Errors
@@ -318,7 +318,7 @@ impl Auditor {
     /// The first that holds:
     ///
     /// 1. `OtherCount`: there are more or fewer books than nodes.
-    /// 2. `Behind`: the first node whose book ends with another clock, or is that of another node.
+    /// 2. `Behind`: the first node whose book ends with another clock, or belongs to another node.
     pub fn check_books(&self, books: &[Book]) -> Result<(), BehindError>
         ensures ok { OnOk result (AreAllIn self.now.nodes books.now) }
         ensures other_count { IsErrOf result BehindError.OtherCount ↔ (length books.now ≢ length self.now.nodes) }

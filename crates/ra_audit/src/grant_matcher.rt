@@ -1,4 +1,4 @@
-//! Whether each grant that clients were given is in the run that an observer is told.
+//! Whether each grant that clients were given is in the run that an observer sees.
 ghost use Rattle.std.specs.Prelude.{◌≡◌, ◌≢◌, ◌↔◌, ◌<◌, ◌++◌, ◌∷◌, true, false, [], Some, Contains, length, slice_index_or, IfSome, IsErrOf, IsNone, IsOk, OnErr, OnOk};
 ghost use Rattle.ra_stamp.specs.declared.entry.Mark as entry_mark;
 ghost use Rattle.ra_book.specs.declared.book.grant.Grant as granted;
@@ -15,8 +15,8 @@ use thiserror::Error;
 /// Why not each grant is in the run.
 #[derive(Clone, Copy, Debug, PartialEq, Eq, Error)]
 pub enum GrantError {
-    /// For this grant there is no `Entered` mark among those that were told: its request never entered, or the mark is
-    /// that of an equal grant.
+    /// This grant has no `Entered` mark among those that were told: its request never entered, or the mark belongs to
+    /// an equal grant.
     GrantMissing(Grant),
     /// A mark was forgotten, so that it is not known whether a grant is missing.
     Memory,
@@ -75,7 +75,7 @@ impl Model for GrantMatcher {
 }
 
 impl GrantMatcher {
-    /// Makes the one that was told and given nothing. It does not allocate.
+    /// Makes a matcher that was told and given nothing. It does not allocate.
     pub fn new(alloc: Global) -> GrantMatcher
         ensures { result ≡ record { told = []; grants = []; waiting = []; left = []; forgot = false } }
     {
@@ -152,7 +152,7 @@ impl GrantMatcher {
         self.left.len()
     }
 
-    /// Is told one more `Entered` mark, and matches it with a grant that waits, or keeps it, or forgets it. It forgets
+    /// Takes the next `Entered` mark, and matches it with a grant that waits, or keeps it, or forgets it. It forgets
     /// it only if there is no room for it, which the clauses leave open.
     fn enter(&mut self, mark: &Mark, entry: &Entry)
         requires { mark.now ≡ entry_mark.Mark.Entered entry.now }
@@ -176,7 +176,7 @@ impl MarkObserver for GrantMatcher {
 
     ghost granted = { λ m. m.grants };
 
-    /// Is told one more mark of the run. An `Entered` mark is matched with a grant of its request that waits. If no
+    /// Takes the next mark of the run. An `Entered` mark is matched with a grant of its request that waits. If no
     /// grant of the request waits, the mark is kept or forgotten.
     fn tell(&mut self, mark: &Mark)
         ensures told { self.new.told ≡ self.old.told ++ mark.now ∷ [] }

@@ -5,9 +5,8 @@ ghost use Rattle.ra_book.specs.declared.book.grant.Grant as granted;
 use ra_stamp::{GhostList, Mark};
 use std::marker::Model;
 
-/// Is told the marks of a run in their order, each once. Contracts see the marks that it was told so far, and the
-/// grants that it was given, if it is one that takes them. An observer that does not keep the marks has a [`Told`],
-/// which takes no memory.
+/// Takes the marks of a run in their order, each once. Contracts see the marks that it was told so far, and the grants
+/// that it was given, if it takes any. An observer that does not keep the marks has a [`Told`], which takes no memory.
 pub trait MarkObserver {
     ghost told: { Self → List mark.Mark };
 
@@ -19,7 +18,7 @@ pub trait MarkObserver {
         ensures granted { granted self.new ≡ granted self.old };
 }
 
-/// The marks that an observer was told, for proofs alone. By itself it is the observer that passes over all.
+/// The marks that an observer was told, for proofs alone. By itself it is the observer that ignores all.
 #[derive(Drop)]
 pub struct Told {
     marks: GhostList<Mark>,
@@ -35,7 +34,7 @@ impl Model for Told {
 }
 
 impl Told {
-    /// Makes the one that was told nothing.
+    /// Makes an observer that was told nothing.
     pub fn new() -> Told
         ensures { result ≡ [] }
     {

@@ -20,7 +20,7 @@ impl Auditor {
     /// frame whose sender was looked at too early in the round is put in the next one.
     ///
     /// A frame that waits was never sent if an earlier round took it and its sender's events don't come to its clock
-    /// yet, or if they go beyond it and none has it. So a frame can't hold up the audit by a clock that is ahead of its
+    /// yet, or if they go past it and none has it. So a frame can't hold up the audit with a clock that is ahead of its
     /// sender's: the second round after the one that took it finds it at the latest, if no other frame is at fault and
     /// no round is refused.
     ///
@@ -44,11 +44,11 @@ impl Auditor {
     /// 5. `Memory`: memory ran out before events were taken, and nothing has changed; or while events or losses were
     ///    put, and an event is due that fits, or no event can be put and some loss is still to be put. The next round
     ///    goes on.
-    /// 6. `NotTaken`: the events of a node were not taken, nor those of the nodes after it. What was taken or noted as
-    ///    lost is in the run, as far as it can be. If the cause is `Memory`, the next round takes them. `OutOfTurn`
-    ///    comes if the auditor is not that of the round before, which no clause says; nothing of the node is kept. If
-    ///    it is `NotNext`, what the node handed over is kept and can't be its next events, so that no later round takes
-    ///    events of it. `NoNode` never comes.
+    /// 6. `NotTaken`: the events of a node and of the nodes after it were not taken. What was taken or noted as lost is
+    ///    in the run, as far as it can be. If the cause is `Memory`, the next round takes them. `OutOfTurn` comes if
+    ///    another auditor made the round before, which no clause says; nothing of the node is kept. If it is `NotNext`,
+    ///    what the node handed over is kept and can't be its next events, so no later round takes events from it.
+    ///    `NoNode` never comes.
     /// 7. `Fault`: a frame that waits as the next event of its node was never sent.
     pub fn audit<R: Wait, G: Gate + Drop, O: MarkObserver>(
         &mut self,
@@ -68,7 +68,7 @@ impl Auditor {
     /// nodes, as a round does. If it is Ok, all that was taken is in the run, and the losses of all frames that were
     /// handed over or noted as lost. After `NotTaken` for `Memory`, and after `Memory`, it can be called again.
     ///
-    /// The cost is that of a round, and then linear in the number of nodes.
+    /// The cost is that of a round, plus time linear in the number of nodes.
     ///
     /// # Errors
     ///

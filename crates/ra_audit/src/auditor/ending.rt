@@ -30,8 +30,8 @@ impl Auditor {
     /// clock, and none of the frames that they still have is flagged lost. It returns the books of the nodes, in their
     /// order.
     ///
-    /// The cost is that of these calls, and linear in the number of frames that the books still have: none, after a
-    /// round.
+    /// The cost is that of these calls, plus time linear in the number of frames that the books still have, which is 0
+    /// after a round.
     ///
     /// # Errors
     ///
@@ -101,7 +101,7 @@ fn check_closed(nodes: &[NodeProgress], books: &[Book]) -> Result<(), CloseError
     }
 }
 
-/// Returns the first frame, by node and in order of sending, that a book has flagged lost, or `None` if there is none.
+/// Returns the first frame, by node and in order of sending, that a book has flagged lost, or `None`.
 fn first_still_lost(books: &[Book]) -> Option<Frame>
     ensures { result ≡ slice_get (still_lost books.now) 0 }
 {

@@ -1,4 +1,4 @@
-//! Of the messages under way, the clocks of the events that sent them.
+//! The messages under way with the clocks of the events that sent them.
 ghost use Rattle.std.specs.Prelude.{◌≡◌, ◌≢◌, ◌↔◌, ◌<◌, ◌∷◌, [], ℕ, All, Contains, None, Some, length, map, slice_index_or, IfOk, IsTrue, IsFalse, OnOk};
 ghost use Rattle.indexmap.specs.IndexMap.{get};
 ghost use Rattle.ra_book.specs.Settled.{frames_in};
@@ -11,12 +11,12 @@ use ra_stamp::{Memory, Message, Messages};
 use std::alloc::Global;
 use std::marker::Model;
 
-/// Of each message under way, the clock of the event that sent it. What an event sends is noted before the next event,
-/// so that nothing is left to fail once an event is in the run. The memory is linear in the number of messages under
-/// way, beside two slots for each sender and receiver.
+/// Each message under way with the clock of the event that sent it. What an event sends is noted before the next event,
+/// so that nothing can fail once an event is in the run. The memory is linear in the number of messages under way,
+/// beside two slots for each sender and receiver.
 #[derive(Drop)]
 pub struct Flights {
-    /// Of how many nodes the run is.
+    /// How many nodes the run has.
     nodes: u16,
     /// For each sender and receiver a slot for a REQUEST and one for a REPLY. Mostly no more are under way between
     /// them, and what is in its slot is found without hashing it.
@@ -46,7 +46,7 @@ impl Model for Flights {
 }
 
 impl Flights {
-    /// Makes those of a run of this many nodes in which nothing happened. The cost is linear in the number of pairs of
+    /// Makes those of a run of this many nodes before its first step. The cost is linear in the number of pairs of
     /// nodes.
     ///
     /// # Errors
@@ -329,6 +329,6 @@ fn note(
 fn are_without(others: &IndexMap<Message, u64>, message: &Message) -> bool
     ensures { IsTrue result ↔ (get ⟦<Message as PartialEq>⟧.eq others.now message.now ≡ None) }
 {
-    // Mostly there are none, and then the message need not be hashed.
+    // Mostly none is kept, and then the message need not be hashed.
     others.is_empty() || others.get(message).is_none()
 }

@@ -41,7 +41,7 @@ pub fn first_unsent(nodes: &[NodeProgress], clocks: &[u64]) -> Option<AuditFault
     None
 }
 
-/// Returns the clock at this place, or 0 if there is none.
+/// Returns the clock at this place, or 0 if it has none.
 fn clock_at(clocks: &[u64], place: usize) -> u64
     ensures { result ≡ slice_index_or clocks.now place 0 }
 {
@@ -76,7 +76,7 @@ fn may_come(nodes: &[NodeProgress], kind: &BookKind, came: u64, known: u64) -> b
     requires { (count : ℕ) × (map (λ p. p.node) nodes.now ≡ range_with_len 1 count) }
     ensures may { IsTrue result → MayCome nodes.now (known < came) kind.now }
     ensures none { result ≡ false → (IsDue nodes.now kind.now → ⊥) → IsOfNone nodes.now (came ≤ known) kind.now }
-    // Of no other event is the answer no, although each of them can be put into the run at once.
+    // The answer for all other events is yes, although each of them can be put into the run at once.
     ensures frames { result ≡ false → (frame : Frame) × (kind.now ≡ BookKind.Receive frame) }
 {
     match kind {

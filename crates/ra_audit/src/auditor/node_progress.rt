@@ -44,7 +44,7 @@ impl Model for NodeProgress {
 }
 
 impl NodeProgress {
-    /// Makes that of a node from which nothing was taken. It does not allocate.
+    /// Makes the progress of a node from which nothing was taken. It does not allocate.
     pub fn new(alloc: Global, node: NodeId) -> NodeProgress
         ensures { result ≡ fresh_progress node }
     {
@@ -261,8 +261,8 @@ fn append(waiting: &mut VecDeque<BookEvent>, events: &[BookEvent]) -> Result<(),
     Ok(())
 }
 
-/// Returns the clock of the last of these events, if they can be the next ones of a node after this clock; if there are
-/// none, it is this clock.
+/// Returns the clock of the last of these events, if they can be the next ones of a node after this clock, or this
+/// clock if there are none.
 fn latest_of(node: NodeId, clock: u64, events: &[BookEvent]) -> Option<u64>
     ensures { MatchOption result (AreNextAt node clock events.now → ⊥)
         (λ latest. AreNextAt node clock events.now × (latest ≡ clock_from clock events.now)) }

@@ -34,7 +34,7 @@ impl Model for Losses {
 }
 
 impl Losses {
-    /// Makes those of a run in which nothing was lost. It does not allocate.
+    /// Makes the losses of a run in which nothing was lost. It does not allocate.
     pub fn new(alloc: Global) -> Losses
         ensures { result ≡ record { losing = []; noted = []; lost = [] } }
     {
@@ -60,7 +60,7 @@ impl Losses {
         self.losing.len() + self.noted.len()
     }
 
-    /// Returns the first frame whose loss is still to be put into the run, or `None` if there is none.
+    /// Returns the first frame whose loss has yet to be put into the run, or `None`.
     pub fn first(&self) -> Option<Frame>
         ensures { result ≡ slice_get self.now.losing 0 }
     {

@@ -93,7 +93,7 @@ fn put_next<O: MarkObserver>(
         unreachable!()
     };
     let node = progress.node();
-    // A frame whose clock is not that of the event that sent it was never sent.
+    // A frame was never sent if its clock is not that of the event that sent its message.
     if !flights.has_frame_of(&event.kind) {
         return Err(AuditError::Fault(AuditFault { node, event }));
     }
@@ -162,8 +162,8 @@ fn tell_all<O: MarkObserver>(observer: &mut O, marks: &[Mark])
     }
 }
 
-/// Returns the place of a node whose next event can be put, the first one from this place on, and then from the first
-/// node on. Returns `None` if there is none.
+/// Returns the place of the first node whose next event can be put, from this place on and then from the first node on.
+/// Returns `None` if there is none.
 fn ready_near(nodes: &[NodeProgress], near: usize) -> Option<usize>
     requires { (count : ℕ) × (map (λ p. p.node) nodes.now ≡ range_with_len 1 count) }
     ensures { MatchOption result (NoneIsReady nodes.now) (λ place. (place < length nodes.now)

@@ -16,7 +16,7 @@ use ra_world::{MarklessWorld, Step, StepError};
 use std::alloc::Global;
 
 /// Puts each event that can be put into the run, and tells the observer the marks. Then it puts the loss of each frame
-/// to which the run has come.
+/// that the run has reached.
 ///
 /// # Errors
 ///
@@ -53,7 +53,7 @@ pub fn put_events_and_losses<O: MarkObserver>(
     put_losses(alloc, world, nodes, flights, losses)
 }
 
-/// Puts the loss of each frame to which the run has come into the run, in their order. The cost is that of a step of a
+/// Puts the loss of each frame that the run has reached into the run, in order. The cost is that of a step of a
 /// [`MarklessWorld`] for each of these, and constant for each other one.
 ///
 /// # Errors

@@ -50,7 +50,7 @@ fn lesser_of(first: Option<AuditFault>, second: Option<AuditFault>) -> Option<Au
     }
 }
 
-/// Returns the first one, unless there is none or the other one has a lesser clock.
+/// Returns the first one, unless it is missing or the other one has a lesser clock.
 fn lesser(first: Option<AuditFault>, other: AuditFault) -> AuditFault
     ensures { (a b : List ProgressState) → IsLeastOf a first → IsLeastWaiting b other → IsLeastWaiting (a ++ b) result }
 {

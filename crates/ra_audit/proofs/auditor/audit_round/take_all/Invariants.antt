@@ -3,7 +3,7 @@ use Rattle.std.specs.List.{AllWithin}
 use Rattle.ra_audit.proofs.AuditRounds.{TakesUpTo}
 use Rattle.ra_audit.proofs.auditor.audit_round.take_all.Given as goal
 
--- more was taken of the nodes so far, of which nothing is kept
+-- more was taken from the nodes so far, and nothing of it is kept
 abbrev pub invariant-loop-place : goal.invariant-loop-place
 invariant-loop-place g l = record {
   up_to : TakesUpTo l.fn.auditor l.place l.auditor;

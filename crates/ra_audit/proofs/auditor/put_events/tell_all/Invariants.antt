@@ -1,7 +1,7 @@
 use Rattle.std.proofs.Common.{◌≡◌, ◌++◌, take}
 use Rattle.ra_audit.proofs.auditor.put_events.tell_all.Given as goal
 
--- the marks so far were told, and the grants are as before
+-- the observer has the marks so far, and the grants are as before
 abbrev pub invariant-loop-mark : goal.invariant-loop-mark
 invariant-loop-mark g l = record {
   told : g.O.MarkObserver.told l.observer ≡ g.O.MarkObserver.told l.fn.observer ++ take l.mark-index l.marks;
