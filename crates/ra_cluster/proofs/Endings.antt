@@ -118,7 +118,7 @@ done_by books script grants settled outcome met =
           (withdraws_none _ _ outcome.moves script settled.report outcome.reports met.0) met.0 requests;
     }
 
--- those of the books, with their outcome
+-- the faults of the books, with their outcome
 module _ (script : ScriptState) (books : List BookState) (grants : List Grant) where
   abbrev pub Ended : Result Settled ClusterError → Type 0
   Ended r = MatchResult r (λ settled. IsOutcome script books grants settled × IsDone script settled) (RefusesSound script books grants)
@@ -142,7 +142,7 @@ pub not_refused : {T : Type 0} (P : T → Type 0) (Q : ClusterError → Type 0) 
 not_refused P Q e none (Ok v) whole is = absurd (cc)
 not_refused P Q e none (Err x) whole is = none (let same : x ≡ e = cc in subst Q same whole)
 
--- a fault that is answered is that of the books
+-- a fault that is answered is the books' fault
 pub same_fault : {T : Type 0} (books : List BookState) (found stop : Stop) → Some found ≡ first_fault books
     → IsErrOf {T = T} (Err (Fault found)) (Fault stop) ↔ (first_fault books ≡ Some stop)
 same_fault books found stop at = (
@@ -181,7 +181,7 @@ apart : {T : Type 0} (x : ClusterError) (r : Result T ClusterError) → (IsOfThr
 apart x (Ok v) none of is = absurd (cc)
 apart x (Err e) none of is = none (let same : e ≡ x = cc in subst IsOfThreads same of)
 
--- a script that was not refused before is refused for none of these causes, whatever comes of its threads
+-- a script that was not refused before is refused for none of these causes, whatever its threads do
 pub still_checked : {T U : Type 0} (script : ScriptState) (v : U) (r : Result T ClusterError) → ChecksScript script (Ok v) → IfErr r IsOfThreads
     → ChecksScript script r
 still_checked script v r says of = record {

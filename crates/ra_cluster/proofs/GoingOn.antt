@@ -60,7 +60,7 @@ tail_of e = cc
 head_of : {X : Type 0} {x y : X} {xs ys : List X} → x ∷ xs ≡ y ∷ ys → x ≡ y
 head_of e = cc
 
--- the events of a book, split at the place at which the events at its node are
+-- the events of a book, split where the events at its node are split
 record Splits (events : List BookEvent) (xs : List Event) (x : Event) : Type 0 where
   pub before : List BookEvent
   pub event : BookEvent
@@ -143,7 +143,7 @@ module _ (laws : GoingOnLaws) (books : List BookState) (moves : List Move) (repo
   me_at : (i : ℕ) (at : (1 ≤ i) × (i ≤ n)) → (book_at books (i - 1)).me ≡ i
   me_at i at = number_at books cluster (i - 1) nobody (place i at) ∙ omega (arith, at.0)
 
-  -- the events of a book, split at the place at which its node takes the event of a move
+  -- the events of a book, split where its node takes the event of a move
   split_there : (k : ℕ) → k < n → (before after : List Move) (move : Move) (event : Event) → moves ≡ before ++ move ∷ after
       → events_at (book_at books k).me move.step ≡ event ∷ [] → Splits (book_at books k).events (events_by (happened_at (book_at books k).me before)) event
   split_there k within before after move event moves_are here =

@@ -36,7 +36,7 @@ pub record ChecksScript {T : Type 0} (script : ScriptState) (answer : Result T C
 abbrev pub IsOfThreads : ClusterError → Type 0
 IsOfThreads e = (e ≢ OutOfOrder) × (e ≢ Unreleased)
 
--- the books are those of the nodes of a script, in order, with numbers that begin at 0
+-- the books belong to the nodes of a script, in order, with numbers that begin at 0
 pub record AreOf (script : ScriptState) (books : List BookState) : Type 0 where
   pub cluster : IsCluster books
   pub count : length books ≡ script.nodes
@@ -83,7 +83,7 @@ IsReported script books grants fault =
     (settled : Settled) × IsOutcome script books grants settled × RefusesReport script settled.report fault
 
 -- Why a script was not brought to its end, if no book has a fault. Memory may run out only after the books were found
--- to be those of the script's nodes, and each frame that came to have been sent.
+-- to belong to the script's nodes, and each frame that came to have been sent.
 abbrev pub RefusesSound : ScriptState → List BookState → List Grant → ClusterError → Type 0
 RefusesSound script books grants OutOfOrder = ⊥
 RefusesSound script books grants Unreleased = ⊥

@@ -8,7 +8,7 @@ pub use Rattle.ra_schedule.specs.Plan.{client_of_mark, marks_of_client, IsReques
 pub use Rattle.ra_schedule.specs.Plan.{FollowsOps, MeetsPlanOf, MeetsPlan}
 use Rattle.ra_world.specs.declared.text.report.Report.{Report}
 
--- the client exists, and the marks that name it are those of its operations
+-- the client exists, and the marks that name it are its operations' marks
 abbrev pub IsFollowed : ScriptState → ℕ → List Mark → Type 0
 IsFollowed script client marks = (c : ScriptClient) × (client_at script client ≡ Some c)
     × FollowsOps c.node c.ops (marks_of_client client marks)

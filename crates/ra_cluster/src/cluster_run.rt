@@ -22,9 +22,9 @@ pub enum ClusterError {
     Unreleased,
     /// A node was stopped, for this cause.
     Fault(Stop),
-    /// The nodes did not record a run of the cluster, or not one in which each grant was given exactly once.
+    /// The nodes recorded no run of the cluster, or one in which not each grant was given exactly once.
     Settle,
-    /// The marks of a client are not those of its operations in order, or a client is queued.
+    /// The marks of a client are not its operations' marks in order, or a client is queued.
     PlanUnmet,
     /// A message was lost.
     Lost,
@@ -59,7 +59,7 @@ impl From<Memory> for ClusterError {
 pub struct Recorded {
     /// The books of the nodes, in order.
     pub books: Vec<Book>,
-    /// The one run into which they settle.
+    /// The one run that they settle into.
     pub settled: Settled,
 }
 
@@ -84,7 +84,7 @@ pub struct Recorded {
 /// 2. `Unreleased`: a client holds a name at its end. No thread was started.
 /// 3. `Fault`: a node was stopped, with the cause at the lowest such node.
 /// 4. `Settle`: the books do not settle, or not with what the clients were granted.
-/// 5. `PlanUnmet`: the marks of a client are not those of its operations in order, or a client is queued.
+/// 5. `PlanUnmet`: the marks of a client are not its operations' marks in order, or a client is queued.
 /// 6. `Lost`: a message was lost.
 /// 7. `UnderWay`: a message is under way.
 /// 8. `Memory`: memory ran out.
@@ -114,7 +114,7 @@ pub fn record_cluster<R: Threads + Wait + Sync, G: Gate>(
     gate: &G,
 ) -> Result<Recorded, ClusterError>
     ensures checked { ChecksScript script.now result }
-    // The run is the one into which these very books settle, and all is true of it that `run_cluster` says.
+    // The run is the one that these very books settle into, and all that `run_cluster` says is true of it.
     ensures recorded { IfOk result (λ recorded. IsRecord script.now recorded.books.items recorded.settled) }
 {
     check_script(script)?;

@@ -1,4 +1,4 @@
-//! Whether the marks of a run are those of a script.
+//! Whether the marks of a run are a script's.
 ghost use Rattle.std.specs.Prelude.{◌≡◌, ◌↔◌, ◌≤◌, All, IsTrue};
 ghost use Rattle.ra_cluster.specs.Plan as spec;
 ghost use Rattle.ra_cluster.specs.Plan.{MeetsPlan, IsFollowed, IsNextMark, IsRequestFor, client_of_mark};
@@ -6,7 +6,7 @@ ghost use Rattle.ra_cluster.specs.Plan.{MeetsPlan, IsFollowed, IsNextMark, IsReq
 use ra_schedule::{Op, Script};
 use ra_stamp::{Entry, Mark, Name, NodeId};
 
-/// Returns whether the marks that name each client are those of its operations, in order, at its node, and no mark
+/// Returns whether the marks that name each client are its operations' marks, in order, at its node, and no mark
 /// names a client that the script does not have. It does not allocate. It takes time linear in the number of clients
 /// times the number of marks.
 pub fn meets_plan(script: &Script, marks: &[Mark]) -> bool
@@ -48,7 +48,7 @@ fn is_request(mark: &Mark) -> bool
     }
 }
 
-/// Returns whether there is this client, and the marks that name it are those of its operations, in order, at its node.
+/// Returns whether this client exists, and the marks that name it are its operations' marks, in order, at its node.
 fn follows_ops(script: &Script, client: u32, marks: &[Mark]) -> bool
     ensures { IsTrue result ↔ IsFollowed script.now client marks.now }
 {

@@ -12,7 +12,7 @@ use std::thread::Threads;
 pub struct ScriptRun<'a, G> {
     /// What the clients do.
     pub script: &'a Script,
-    /// The nodes at which they do it. Its gate is shown each step and each client that is inside.
+    /// The nodes at which they do it. The gate is shown each step and each client that is inside.
     pub cluster: &'a Cluster<G>,
     /// What the clients were granted, in any order.
     pub grants: &'a Mutex<Vec<Grant>>,

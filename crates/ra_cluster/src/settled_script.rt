@@ -21,9 +21,9 @@ use std::alloc::Global;
 /// sent:
 ///
 /// 1. `Fault`: a node was stopped, with the cause in the first such book.
-/// 2. `Settle`: the books are not those of the script's nodes, in order, with numbers that begin at 0.
+/// 2. `Settle`: the books do not belong to the script's nodes, in order, with numbers that begin at 0.
 /// 3. `Settle`: they do not settle, or not with what the clients were granted.
-/// 4. `PlanUnmet`: the marks of a client are not those of its operations in order, or a client is queued.
+/// 4. `PlanUnmet`: the marks of a client are not its operations' marks in order, or a client is queued.
 /// 5. `Lost`: a message was lost.
 /// 6. `UnderWay`: a message is under way.
 /// 7. `Memory`: memory ran out while the books were settled.
@@ -33,9 +33,9 @@ pub fn settle_script(
     books: &[Book],
     grants: &[Grant],
 ) -> Result<Settled, ClusterError>
-    // It reports the one run into which these very books settle, with each grant in it exactly once.
+    // It reports the one run that these very books settle into, with each grant in it exactly once.
     ensures outcome { IfOk result (IsOutcome script.now books.now grants.now) }
-    // Its marks are those of the script, it ends quietly, and its requests and messages are counted.
+    // Its marks are the script's, it ends quietly, and its requests and messages are counted.
     ensures done { IfOk result (IsDone script.now) }
     ensures fault { (stop : Stop) → IsErrOf result (ClusterError.Fault stop)
         ↔ (spec.first_fault books.now ≡ Some stop) }
@@ -102,7 +102,7 @@ fn first_fault(books: &[Book]) -> Option<Stop>
     None
 }
 
-/// Returns whether the books are those of the nodes of a script, in order, with numbers that begin at 0.
+/// Returns whether the books belong to the nodes of a script, in order, with numbers that begin at 0.
 fn are_of(script: &Script, books: &[Book]) -> bool
     ensures { IsTrue result ↔ AreOf script.now books.now }
 {
@@ -130,7 +130,7 @@ fn begin_at_0(books: &[Book]) -> bool
 ///
 /// The first that holds:
 ///
-/// 1. `PlanUnmet`: the marks of a client are not those of its operations in order, or a client is queued.
+/// 1. `PlanUnmet`: the marks of a client are not its operations' marks in order, or a client is queued.
 /// 2. `Lost`: a message was lost.
 /// 3. `UnderWay`: a message is under way.
 fn check_report(script: &Script, report: &Report) -> Result<(), ClusterError>
