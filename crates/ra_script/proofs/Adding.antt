@@ -1,4 +1,4 @@
--- One more operation of a client, and one more client.
+-- Another operation of a client, and another client.
 use Rattle.std.proofs.Common.{◌≡◌, ◌<◌, ◌≤◌, ◌+◌, ℕ, false, List, [], ◌∷◌, ◌++◌, length, get_or, drop, nat_lt, Some, None, Ok, Err, refl, sym, ap, ◌∙◌, inl, inr, arith, length-append}
 use Rattle.std.proofs.lemmas.Bool.{cases_Bool}
 use Rattle.std.proofs.lemmas.Bool.Decides.{nat_tests}
@@ -124,7 +124,7 @@ IsAddedTo-refused base node strings place script string why lt at few step h =
       | inr memory ↦ inr memory
     ]
 
--- within the limit, the operations are those of the strings
+-- within the limit, the operations are the ones of the strings
 pub script_ops-few : (strings : List (List ℕ)) → length strings ≤ 1024 → script_ops strings ≡ ops_after [] strings
 script_ops-few strings few = rw (within (length strings) few)
   where

@@ -10,7 +10,7 @@ mapped : {A B : Type 0} (f : A → B) (o : Option A) (y : B) → option_map f o 
 mapped f None y e = absurd cc
 mapped f (Some x) y e = (x, refl, same_Some _ _ e)
 
--- the space after bytes of which none is one
+-- the space after bytes that are none
 pub cut-append : (xs ys : List ℕ) → All (λ b. b ≢ 32) xs → cut (xs ++ 32 ∷ ys) ≡ Some (xs, ys)
 cut-append [] ys free = refl
 cut-append (x ∷ xs) ys free =

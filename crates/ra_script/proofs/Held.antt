@@ -34,7 +34,7 @@ by_else ops name false x y is h = h
 
 -- ---- The test and what it says
 
--- one more operation in front
+-- another operation in front
 later : (op : Op) (ops : List Op) (name : List ℕ) → IsHeldAfter ops name → IsHeldAfter (op ∷ ops) name
 later op ops name h = (op ∷ h.0, h.1, h.2, ap (λ (xs : List Op). op ∷ xs) h.3, h.4)
 

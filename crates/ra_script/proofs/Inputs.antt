@@ -1,4 +1,4 @@
--- What holds of the bytes that were read holds of the whole input: one of which 65,537 bytes were read is no script.
+-- What holds of the bytes that were read holds of the whole input: if 65,537 bytes were read, the input is no script.
 use Rattle.std.proofs.Common.{◌≡◌, ◌≢◌, ◌⊎◌, ℕ, ◌≤◌, Bool, List, [], ◌∷◌, ◌++◌, length, Option, Some, None, Ok, Err, refl, sym, ap, subst, ◌∙◌, arith, inl, inr}
 use Rattle.std.specs.Prelude.{IfSome, if◌then◌else◌, ok_or, not}
 use Rattle.std.specs.Str.{is_utf8}
@@ -70,7 +70,7 @@ refuses_input (Some input) (Some rest) format policy taken why early h r =
       | inr long ↦ too_long format policy taken input why early long.0 long.1 r
     ]
 
--- what comes of what was read comes of the input, and nothing of it is left
+-- the outcome of what was read is the outcome of the input, and nothing of the input is left
 pub performs_input : (old new : Option (List ℕ)) (format : OutputKind) (policy : Policy) (taken output : List ℕ) (finished : Bool) → Reads old new 65537 taken
     → IsPerformedAs format policy taken output finished → IfSome old (λ input. IsPerformedAs format policy input output finished × Consumes old new input)
 performs_input None new format policy taken output finished h r = tt
@@ -89,7 +89,7 @@ pub of_known : (old : Option (List ℕ)) (P Q : List ℕ → Type 0) → ((input
 of_known None P Q f h = tt
 of_known (Some input) P Q f h = f input h
 
--- a list of which an end is left
+-- a list with an end that is left
 pub not_nil : (bytes prefix suffix : List ℕ) → bytes ≡ prefix ++ suffix → suffix ≢ [] → bytes ≢ []
 not_nil bytes [] suffix e left nothing = left (sym e ∙ nothing)
 not_nil bytes (x ∷ xs) suffix e left nothing = absurd cc

@@ -125,7 +125,7 @@ clients_written nodes done (table ∷ tables) clients placed e =
       named = All-cons IsNamed w.0 rest.new first.1 rest.named;
     }
 
--- a document that is taken is that of the script
+-- a document that is taken is the script's
 pub record IsWritten (document : Document) (script : ScriptState) : Type 0 where
   pub is : document ≡ written script
   pub some : 1 ≤ length script.clients

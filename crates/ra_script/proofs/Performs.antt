@@ -21,7 +21,7 @@ module _ (below_limit : (format : OutputKind) (policy : Policy) (input : List �
     (never_refused : (format : OutputKind) (policy : Policy) (input : List ℕ) (cause : DriveError) → RepeatsNothing policy → ChoosesItself policy → RefusesAs format policy input (Drive cause) → ⊥)
     (format : OutputKind) (policy : Policy) (old new before after : Option (List ℕ)) (Untouched : Type 0)
     (at_most : (taken : List ℕ) × (length taken ≤ 65537) × Consumes old new taken) where
-  -- nothing came of the input, so that nothing was written
+  -- the input had no outcome, so nothing was written
   pub unmade : (why : PerformError) → IfSome old (λ input. RefusesAs format policy input why) → (input : List ℕ) × RefusesAs format policy input why
       → why ≢ Write → (why ≡ Read → (taken : List ℕ) × (length taken < 65537) × Consumes old new taken) → Untouched
       → PerformsScript format policy old new before after Untouched (Err why)

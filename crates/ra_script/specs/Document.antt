@@ -34,7 +34,7 @@ each_of read no_items = Some []
 each_of read (item value rest) = option_and_then (λ first. option_map (λ others. first ∷ others) (each_of read rest))
     (read value)
 
--- the strings of an array, if it contains nothing else
+-- the strings of an array, if it contains only strings
 abbrev pub strings_of : Items → Option (List (List ℕ))
 strings_of items = each_of as_str items
 
@@ -53,7 +53,7 @@ client_in table =
 abbrev pub client_of : Data → Option ClientTable
 client_of value = option_and_then client_in (as_table value)
 
--- the clients of an array, if it contains nothing else
+-- the clients of an array, if it contains only clients
 abbrev pub clients_of : Items → Option (List ClientTable)
 clients_of items = each_of client_of items
 
@@ -70,7 +70,7 @@ document_of table =
     if key_count table == 2 then document_from (integer_at (codes "nodes") table) (array_at (codes "client") table)
     else None
 
--- the texts to which these references point
+-- the texts that these references point to
 abbrev pub texts : List (Bor (List ℕ)) → List (List ℕ)
 texts strings = map (λ string. string.now) strings
 

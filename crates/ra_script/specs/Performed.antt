@@ -127,7 +127,7 @@ pub record BringsToEnd (policy : Policy) (known : Option (List ℕ)) (result : R
 pub record PerformsScript (format : OutputKind) (policy : Policy) (old new before after : Option (List ℕ))
     (Untouched : Type 0)
     (result : Result Bool PerformError) : Type 0 where
-  -- a script is read to its end, and its output is written and nothing else
+  -- a script is read to its end, and only its output is written
   pub ok : IfOk result
       (λ finished. IfSome old (λ input. (output : List ℕ) × IsPerformedAs format policy input output finished
       × Consumes old new input × Appends before after output))

@@ -10,7 +10,7 @@ use Rattle.ra_script.specs.Performed.{IsPerformedAs, RefusesAs}
 use Rattle.ra_script.specs.ScriptText.{script_of}
 
 -- The answer of each function that drives a cluster through a script by this policy, and returns what is written of the
--- run in this format. The script is that of some input.
+-- run in this format. The script is an input's.
 pub record PrintsRun (format : OutputKind) (policy : Policy) (script : ScriptState)
     (result : Result Printed PerformError) : Type 0 where
   pub ok : (input : List ℕ) → script_of input ≡ Ok script

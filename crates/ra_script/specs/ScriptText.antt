@@ -1,4 +1,4 @@
--- The script of a text, check by check, in the order in which refusals come.
+-- The script of a text, check by check, in the order of the refusals.
 use Rattle.std.specs.Prelude.{◌≡◌, ◌≤◌, ℕ, ℤ, pos, negsuc, nat_le, nat_lt, ◌&&◌, Bool, true, false, not, List, [], ◌∷◌, ◌++◌, length, Result, Ok, Err, if◌then◌else◌, ok_or}
 use Rattle.std.specs.List.{list_all}
 use Rattle.std.specs.Str.{is_utf8, bytes_eq}
@@ -17,7 +17,7 @@ abbrev pub result_and_then : {A B : Type 0} → (A → Result B ScriptError) →
 result_and_then next (Ok value) = next value
 result_and_then next (Err why) = Err why
 
--- the script with one more client
+-- the script with another client
 abbrev pub with_last : ScriptState → ScriptClient → ScriptState
 with_last script client = record script { clients = script.clients ++ client ∷ [] }
 

@@ -42,7 +42,7 @@ impl fmt::Display for ScriptError {
     }
 }
 
-/// Why a script was not performed, in the order in which the causes are looked for.
+/// Why a script was not performed. The causes are looked for in this order.
 #[derive(Clone, Copy, PartialEq, Eq, Error)]
 pub enum PerformError {
     /// The reader failed.
@@ -51,7 +51,7 @@ pub enum PerformError {
     Script(ScriptError),
     /// The policy could not go on. It is never that memory ran out.
     Drive(DriveError),
-    /// The choices of the run are to be written, and a message is repeated, for which there is no word.
+    /// The choices of the run are to be written, and a message is repeated, which no word can say.
     Choice,
     /// Memory ran out.
     Memory,

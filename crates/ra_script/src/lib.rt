@@ -1,6 +1,6 @@
 //! The texts of scripts. A script is performed from its text to the lines of its report, to its trace, to its choices,
-//! to those to which a run that is stuck is shrunk, or to the state at its end. [`perform_as`] says what each costs. A
-//! script can also be performed by many seeds, up to the first run that ends as wanted.
+//! to the choices that a stuck run is shrunk to, or to the state at its end. [`perform_as`] says what each costs. A
+//! script can also be performed with many seeds, up to the first run that ends as wanted.
 #![tactic(auto)]
 
 mod error;

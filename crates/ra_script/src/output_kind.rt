@@ -7,7 +7,7 @@ pub enum OutputKind {
     Trace,
     /// Its trace, with the messages that each step sends.
     TraceWithSends,
-    /// The choices by which the policy listed makes it again: their words on one line.
+    /// The choices with which the policy `listed` makes it again: their words on one line.
     Choices,
     /// If it is stuck, the choices of the least run that is found by leaving out one step after the other, and
     /// otherwise the word `none`.

@@ -37,7 +37,7 @@ fn lines_of(alloc: Global, policy: &Policy, script: &Script) -> Result<Printed, 
     let summary = summarize(alloc, script, policy, MAX_TURNS)?;
     let lines = report_text(alloc, &summary.report);
     let finished = summary.finished;
-    // By a call, and before any exit, since to drop each of its parts there is long to prove.
+    // By a call, and before any exit: dropping each of its parts at an exit takes long to prove.
     drop(summary);
     let text = lines?;
     Ok(Printed { text, finished })
@@ -59,7 +59,7 @@ fn trace_of(alloc: Global, policy: &Policy, script: &Script) -> Result<Printed, 
     let recording = drive(alloc, script, policy, MAX_TURNS)?;
     let text = trace_text(alloc, script.nodes(), 0, &recording.steps);
     let finished = recording.finished;
-    // By a call, and before any exit, since to drop each of its parts there is long to prove.
+    // By a call, and before any exit: dropping each of its parts at an exit takes long to prove.
     drop(recording);
     match text {
         Ok(text) => Ok(Printed { text, finished }),
@@ -86,7 +86,7 @@ fn trace_with_sends_of(
     let recording = drive(alloc, script, policy, MAX_TURNS)?;
     let text = trace_text_with_sends(alloc, script.nodes(), 0, &recording.steps);
     let finished = recording.finished;
-    // By a call, and before any exit, since to drop each of its parts there is long to prove.
+    // By a call, and before any exit: dropping each of its parts at an exit takes long to prove.
     drop(recording);
     match text {
         Ok(text) => Ok(Printed { text, finished }),
@@ -113,14 +113,14 @@ fn choices_line(alloc: Global, choices: &Choices) -> Result<String, ChoicesError
     }
 }
 
-/// Drives a cluster through a script by a policy, and returns the line of its choices, by which the run is made again.
+/// Drives a cluster through a script by a policy, and returns the line of its choices, which make the run again.
 ///
 /// # Errors
 ///
 /// The first that holds, except that `Memory` may come before the others:
 ///
 /// 1. `Drive`: the policy can't go on.
-/// 2. `Choice`: a message is repeated, for which there is no word.
+/// 2. `Choice`: a message is repeated, which no word can say.
 /// 3. `Memory`: memory ran out.
 fn choices_of(alloc: Global, policy: &Policy, script: &Script) -> Result<Printed, PerformError>
     ensures { PrintsRun OutputKind.Choices policy.now script.now result }
@@ -130,7 +130,7 @@ fn choices_of(alloc: Global, policy: &Policy, script: &Script) -> Result<Printed
     let recording = drive(alloc, script, policy, MAX_TURNS)?;
     let line = choices_line(alloc, &recording.choices);
     let finished = recording.finished;
-    // By a call, and before any exit, since to drop each of its parts there is long to prove.
+    // By a call, and before any exit: dropping each of its parts at an exit takes long to prove.
     drop(recording);
     let text = line?;
     Ok(Printed { text, finished })
@@ -156,7 +156,7 @@ fn line_or_none(alloc: Global, choices: &Option<Choices>) -> Result<String, Choi
     }
 }
 
-/// Drives a cluster through a script by a policy, and returns the line of the choices to which the run is shrunk if it
+/// Drives a cluster through a script by a policy, and returns the line of the choices that the run is shrunk to if it
 /// is stuck, or a line that says that it is not.
 ///
 /// # Errors
@@ -164,7 +164,7 @@ fn line_or_none(alloc: Global, choices: &Option<Choices>) -> Result<String, Choi
 /// The first that holds, except that `Memory` may come before the others:
 ///
 /// 1. `Drive`: the policy can't go on.
-/// 2. `Choice`: a message is repeated, for which there is no word.
+/// 2. `Choice`: a message is repeated, which no word can say.
 /// 3. `Memory`: memory ran out.
 fn shrunk_of(alloc: Global, policy: &Policy, script: &Script) -> Result<Printed, PerformError>
     ensures { PrintsRun OutputKind.Shrunk policy.now script.now result }
@@ -174,7 +174,7 @@ fn shrunk_of(alloc: Global, policy: &Policy, script: &Script) -> Result<Printed,
     let shrunk = shrink(alloc, script, policy, MAX_TURNS)?;
     let line = line_or_none(alloc, &shrunk.choices);
     let finished = shrunk.finished;
-    // By a call, and before any exit, since to drop each of its parts there is long to prove.
+    // By a call, and before any exit: dropping each of its parts at an exit takes long to prove.
     drop(shrunk);
     let text = line?;
     Ok(Printed { text, finished })
@@ -202,7 +202,7 @@ fn state_of(alloc: Global, policy: &Policy, script: &Script) -> Result<Printed, 
 /// The first that holds, except that `Memory` may come before the others:
 ///
 /// 1. `Drive`: the policy can't go on.
-/// 2. `Choice`: the choices are to be written, and a message is repeated, for which there is no word.
+/// 2. `Choice`: the choices are to be written, and a message is repeated, which no word can say.
 /// 3. `Memory`: memory ran out.
 pub fn print_run(
     alloc: Global,
@@ -231,8 +231,8 @@ pub fn print_run(
 ///   the same run again, whatever policy made it first. It costs about what `perform` does, plus time and memory linear
 ///   in the number of turns.
 /// - `Shrunk`: if the run is stuck, the choices to which [`ra_schedule::shrink`] shrinks it, on one line, and otherwise
-///   the word `none`. For a run of n turns, at most n(n + 1) / 2 more runs are made, each of at most n turns. It takes
-///   memory linear in n.
+///   the word `none`. For a run of n turns, at most n(n + 1) / 2 further runs are made, each of at most n turns. It
+///   takes memory linear in n.
 /// - `State`: the lines of the state at the end, at the cost of [`ra_schedule::show`]. It keeps the steps, in memory
 ///   linear in the number of turns.
 ///
@@ -243,7 +243,7 @@ pub fn print_run(
 /// 1. `Read`: the reader failed, before its end and before it gave 65,537 bytes.
 /// 2. `Script`: the input is no script.
 /// 3. `Drive`: a choice is left after the last turn, or can't be made.
-/// 4. `Choice`: choices are to be written, and a message is repeated, for which there is no word.
+/// 4. `Choice`: choices are to be written, and a message is repeated, which no word can say.
 /// 5. `Memory`: memory ran out.
 /// 6. `Write`: the writer failed or took nothing, with bytes left to write. A prefix of the text was written.
 ///

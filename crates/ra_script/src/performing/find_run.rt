@@ -12,19 +12,19 @@ use crate::{OutputKind, PerformError};
 use ra_schedule::{ChoicesError, Ending, Faults, Observer, Script, SeedRange, chance, first_seed};
 use std::alloc::Global;
 
-/// Returns what is written in a format of the run of a script by the least seed of a range by which it comes to an end
+/// Returns what is written, in a format, of the run of a script with the least seed of a range that brings it to an end
 /// by chance, with faults or without, each in at most 16,777,216 turns. It is `None` if no seed brings the script to
-/// that end. The observer learns of each seed that is tried, the last of which made the run. The cost is that of the
-/// runs up to that one, and for it what [`perform_as`](crate::perform_as) says of the format.
+/// that end. The observer learns of each seed that is tried; the last of them made the run. The cost is that of the
+/// runs up to that one, plus what [`perform_as`](crate::perform_as) says of the format for it.
 ///
 /// # Errors
 ///
 /// The first that holds, except that `Memory` may come before the other:
 ///
-/// 1. `Choice`: the choices are to be written, and a message is repeated, for which there is no word. The observer
-///    learned of each seed up to that of the run.
+/// 1. `Choice`: the choices are to be written, and a message is repeated, which no word can say. The observer learned
+///    of each seed up to the run's.
 /// 2. `Memory`: memory ran out at some seed, and the observer learned of those before it; or for the text, and the
-///    observer learned of each seed up to that of the run.
+///    observer learned of each seed up to the run's.
 pub fn find_run<O: Observer>(
     alloc: Global,
     script: &Script,
@@ -62,7 +62,7 @@ pub fn find_run<O: Observer>(
     match print_run(alloc, format, &chance(again, seed), script) {
         Ok(printed) => Ok(Some(printed)),
         Err(PerformError::Choice) => Err(ChoicesError::Choice),
-        // By that seed it comes to an end, so only `Memory` can come.
+        // With that seed it comes to an end, so only `Memory` can come.
         Err(_) => Err(ChoicesError::Memory),
     }
 }

@@ -72,7 +72,7 @@ pub fn array_at<'a>(table: &'a Table, key: &str) -> Option<&'a Array>
     }
 }
 
-/// Returns the strings of an array that has nothing else.
+/// Returns the strings of an array that has only strings.
 ///
 /// # Errors
 ///
@@ -127,7 +127,7 @@ pub fn client_of<'a>(alloc: Global, value: &'a Value) -> Result<ClientRef<'a>, S
     }
 }
 
-/// Returns the clients of an array that has nothing else.
+/// Returns the clients of an array that has only clients.
 ///
 /// # Errors
 ///

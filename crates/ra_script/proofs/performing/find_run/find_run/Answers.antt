@@ -25,7 +25,7 @@ returns-in_err-found g c =
       memory = λ _. inl c.in_err-found.ensures.err;
     }
 
--- ---- There is none
+-- ---- No seed is found
 
 pub returns-in_default : goal.returns-in_default
 returns-in_default g c =
