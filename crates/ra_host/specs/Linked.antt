@@ -12,9 +12,9 @@ use Rattle.ra_book.specs.Pairs.{sent_to, come_from}
 abbrev pub AreTexts : List (List ℕ) → List Frame → Type 0
 AreTexts texts frames = AllZip IsFrameText texts frames
 
--- Of two hosts, after some events of their link: this one took the frames that came at its node from the other one, and
--- so many of them are on its disk as came by its book's first events. The other one made the frames that its node sent
--- to this one, and so many of them are on its disk as its book's first events sent.
+-- Two hosts after some events of their link: this one took the frames that came at its node from the other one, and
+-- those that came in its book's first events are on its disk. The other one made the frames that its node sent to this
+-- one, and those that its book's first events sent are on its disk.
 pub record IsLinked (at : BookState) (at_kept : ℕ) (other : BookState) (other_kept : ℕ) : Type 0 where
   pub events : List (pair.Who × pair.Event)
   pub who : pair.Who
@@ -23,8 +23,8 @@ pub record IsLinked (at : BookState) (at_kept : ℕ) (other : BookState) (other_
   pub sent : AreTexts (pair.other who (pair.after events)).sent (sent_to at.me other)
   pub sent_kept : (pair.other who (pair.after events)).sent_kept ≡ length (sent_to at.me (first_of other_kept other))
 
--- Each two different nodes of the cluster are linked. Of each book so many events are on the disk, by node. No frame is
--- flagged lost.
+-- Any two different nodes of the cluster are linked. This many events of each book are on the disk, by node. No frame
+-- is flagged lost.
 pub record AreLinked (kept : ℕ → ℕ) (books : List BookState) : Type 0 where
   pub linked : All (λ at. All (λ other. at.me ≢ other.me → IsLinked at (kept at.me) other (kept other.me)) books) books
   pub none_lost : All (λ b. All (λ s. s.lost ≡ false) b.sent) books

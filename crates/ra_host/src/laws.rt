@@ -49,8 +49,8 @@ pub fn all_has_come_when_all_is_acknowledged()
         → All HasHistory books → AreAcknowledged kept books → IsSettledRun (cut_books kept books) moves
         → IsQuiet moves }
 {
-    // For the proof: the pairs on the disks fit, a text is one frame's, what is acknowledged was taken, and what is on
-    // the disks are the books of a cluster, of which nothing is under way if all has come.
+    // For the proof: the pairs on the disks fit, a text is one frame's, what is acknowledged was taken, and the books
+    // of a cluster are on the disks, with nothing under way if everything has come.
     linked_books_fit();
     round_trip();
     books_can_be_cut();
