@@ -1,4 +1,4 @@
--- What comes of a call of `answer`, by how far it came.
+-- The outcome of a call of `answer`, by how far it came.
 use Rattle.std.proofs.Common.{◌≡◌, ◌≢◌, ◌⊎◌, ℕ, ◌≤◌, ◌<◌, List, [], ◌++◌, length, Option, Ok, Err, refl, sym, subst, arith, inl, inr}
 use Rattle.std.specs.Io.KnownBytes.{Consumes, Appends}
 use Rattle.std.proofs.KnownBytes.{Consumes-nil}

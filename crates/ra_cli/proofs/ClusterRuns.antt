@@ -1,4 +1,4 @@
--- What comes of a script that threads run, told of the input.
+-- The outcome of a script that threads run, in terms of the input.
 use Rattle.std.proofs.Common.{◌≡◌, ◌↔◌, ℕ, List, Option, Some, None, Ok, Err, Result, refl}
 use Rattle.std.specs.Prelude.{IfErr, IfSome, IsErrOf}
 use Rattle.std.specs.Io.KnownBytes.{Consumes, Appends}

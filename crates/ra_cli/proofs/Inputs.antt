@@ -40,7 +40,7 @@ feed_within : (part rest : List ℕ) → All (λ byte. byte ≢ 10) (part ++ 10 
 feed_within [] rest h = All-head (λ byte. byte ≢ 10) 10 rest h refl
 feed_within (x ∷ xs) rest h = feed_within xs rest (All-tail (λ byte. byte ≢ 10) x (xs ++ 10 ∷ rest) h)
 
--- the line of an input that has a line feed, after which nothing comes
+-- the line of an input that ends with its only line feed
 pub line_before : (input part rest line : List ℕ) → All (λ byte. byte ≢ 10) part → input ≡ part ++ 10 ∷ rest → IsLine input line
     → (part ≡ line) × (rest ≡ [])
 line_before input part rest line free is h =

@@ -1,10 +1,10 @@
--- What came of a check, told of the input.
+-- The outcome of a check, in terms of the input.
 use Rattle.std.proofs.Common.{◌≡◌, ◌≤◌, ℕ, Bool, true, List, length, Option, Some, None, ◌∙◌}
 use Rattle.std.specs.Prelude.{IfSome}
 use Rattle.std.specs.Io.KnownBytes.{Consumes, Appends}
 use Rattle.ra_cli.specs.Checks.{Judges}
 
--- a kind of text, of which a verdict is right only if it is `valid_of` some numbers
+-- a kind of text: a verdict on it is right only if it is `valid_of` some numbers
 module _ {V : Type 0} (IsVerdictOn : List ℕ → V → Type 0) (is_right : V → Bool) (lines_of : V → List ℕ) (valid_of : ℕ → ℕ → V)
     (is_valid : (verdict : V) → is_right verdict ≡ true → (m n : ℕ) × (verdict ≡ valid_of m n)) where
   -- what is right was read to its end

@@ -25,7 +25,7 @@ same_input input taken (Some rest) h =
 pub of_input : (P : List ℕ → Type 0) (input taken : List ℕ) (new : Option (List ℕ)) → IsInput (Some input) new taken → P taken → P input
 of_input P input taken new read = subst P (sym (same_input input taken new read))
 
--- a picture of which the writer took a prefix
+-- a picture from which the writer took a prefix
 pub of_picture : (kind : InputKind) (part : Part) (old new before after : Option (List ℕ))
     → ((input prefix rest : List ℕ) × IsInput old new input × IsOfKind kind input × IsDrawable part input × IsPicture part input (prefix ++ rest) × (rest ≢ [])
     × Appends before after prefix)
@@ -37,7 +37,7 @@ of_picture kind part (Some input) new before after (taken, prefix, rest, read, i
     let same = of_input (λ (xs : List ℕ). IsPicture part xs (prefix ++ rest)) input taken new read picture in
     (prefix ++ rest, inl (whole, fits, same), (prefix, rest, refl, left, some))
 
--- the line that says why there is none
+-- the line that says why there is no picture
 pub of_denied : (kind : InputKind) (part : Part) (old new : Option (List ℕ)) (text taken : List ℕ)
     → IsInput old new taken → SaysWhyNot kind taken text → IfSome old (λ input. IsPrintedBy (task.Draw kind part) input text)
 of_denied kind part None new text taken read is = tt
@@ -78,7 +78,7 @@ denies kind part old new before after Untouched text line input (Err fault) says
   prefix = λ e. absurd cc;
 }
 
--- an attempt by which a picture is drawn
+-- an attempt that draws a picture
 pub shows : (kind : InputKind) (part : Part) (old new before after : Option (List ℕ)) (Untouched : Type 0) (input : List ℕ) → IsInput old new input
     → Shows kind part input before after → Attempts kind part old new before after Untouched (Ok None)
 shows kind part old new before after Untouched input read drawn = record {

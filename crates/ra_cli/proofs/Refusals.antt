@@ -1,4 +1,4 @@
--- What holds of the bytes that were read holds of the whole input: an input of which 258 bytes were read has no line.
+-- What holds of the bytes that were read holds of the whole input: if 258 bytes were read, the input has no line.
 use Rattle.std.proofs.Common.{◌≡◌, ◌≢◌, ℕ, ◌≤◌, List, [], ◌∷◌, ◌++◌, length, Option, Some, None, refl, sym, ap, subst, ◌∙◌, arith, inl, inr}
 use Rattle.std.specs.Prelude.{IfSome}
 use Rattle.std.specs.Io.KnownBytes.{Consumes}
@@ -59,7 +59,7 @@ pub for_each : (old : Option (List ℕ)) (node nodes : ℕ) (why : AnswerError) 
 for_each None node nodes why h = tt
 for_each (Some input) node nodes why h = h input
 
--- a list of which an end is left
+-- a list with an end that is left
 pub not_nil : (bytes prefix suffix : List ℕ) → bytes ≡ prefix ++ suffix → suffix ≢ [] → bytes ≢ []
 not_nil bytes [] suffix e left nothing = left (sym e ∙ nothing)
 not_nil bytes (x ∷ xs) suffix e left nothing = absurd cc

@@ -5,7 +5,7 @@ use Rattle.ra_stamp.specs.declared.message.Message.{Message}
 use Rattle.ra_frame.specs.FrameText.{IsWrittenText}
 use Rattle.ra_cli.specs.Answer.{AreLines}
 
--- one more line at the end
+-- another line at the end
 pub AreLines-push : (clock : ℕ) (messages : List Message) (message : Message) (bytes output : List ℕ) → AreLines clock messages output → IsWrittenText bytes (record { clock = clock; message = message })
     → AreLines clock (messages ++ message ∷ []) (output ++ (encode_lower bytes ++ 10 ∷ []))
 AreLines-push clock [] message bytes output h text =

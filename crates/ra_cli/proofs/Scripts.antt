@@ -1,4 +1,4 @@
--- What holds of the bytes that were read holds of the whole input: one of which 65,537 bytes were read is no script.
+-- What holds of the bytes that were read holds of the whole input: if 65,537 bytes were read, the input is no script.
 use Rattle.std.proofs.Common.{◌≡◌, ℕ, ◌≤◌, Bool, true, false, List, length, Option, Some, None, Ok, Err, refl, sym, ap, subst, ◌∙◌, arith, inl, inr}
 use Rattle.std.specs.Prelude.{IfSome, if◌then◌else◌, ok_or}
 use Rattle.std.specs.Io.KnownBytes.{Consumes}
@@ -16,7 +16,7 @@ use Rattle.ra_cli.specs.declared.error.RunScriptError.TheVariants as fault
 use Rattle.ra_cli.specs.ClusterRun.{RefusesRun, of_script}
 use Rattle.ra_cli.proofs.Inputs.{is_read}
 
--- what comes before an `else`
+-- the part before an `else`
 before_else : {X : Type 0} (test : Bool) (x y : X) → test ≡ true → (if test then x else y) ≡ x
 before_else true x y h = refl
 before_else false x y h = absurd cc
@@ -47,7 +47,7 @@ refuses_script (Some input) (Some rest) taken why h r =
       | inr long ↦ too_long taken input why long.0 long.1 r
     ]
 
--- a script that was read is that of the input, and nothing of it is left
+-- a script that was read is the input's, and nothing of the input is left
 pub reads_script : (old new : Option (List ℕ)) (taken : List ℕ) (script : ScriptState) → Reads old new 65537 taken → script_of taken ≡ Ok script
     → IfSome old (λ input. (script_of input ≡ Ok script) × Consumes old new input)
 reads_script None new taken script h is = tt

@@ -13,7 +13,7 @@ use Rattle.ra_cli.specs.Refusals.{IsOfWriter, refused_line, settle_word}
 use Rattle.ra_cli.specs.SettleRun.{Contradicts, ReadsBooks, RefusesBooks, ServesSettle, Settles, TellsSettled, of_unread}
 use Rattle.ra_cli.specs.Statuses.{IsSaid, PrintsRefusal, Writes}
 
--- what comes of an input that was not read to its end: the status is 1 if the reader failed, and otherwise 2, or 1 if
+-- the outcome of an input that was not read to its end: the status is 1 if the reader failed, and otherwise 2, or 1 if
 -- the writer failed
 pub record RefusesInput (why : SettleFault) (before after : Option (List ℕ)) (status : ℕ) : Type 0 where
   pub range : (1 ≤ status) × (status ≤ 2)
@@ -62,7 +62,7 @@ no_memory asked input before after status h = record {
     of_broken (inl read) = absurd (let clash = read.0 in cc)
     of_broken (inr (prefix, rest, left, some, is)) = (prefix, rest, left, some, inr (inr is))
 
--- ---- A text that is written, or of which the writer takes a prefix
+-- ---- A text that is written, or from which the writer takes a prefix
 
 pub shown : (asked : SettleTask) (input output : List ℕ) (before after : Option (List ℕ)) (status : ℕ) → Settles asked input output
     → Writes output 0 before after status → TellsSettled asked input before after status

@@ -30,7 +30,7 @@ line_of_reader (Survey why) is = ap (λ (w : RunScriptError). refused_line (word
 line_of_reader (Settle why) is = ap (λ (w : SettleFault). refused_line (word_of (Settle w))) is
 line_of_reader (Node why) is = ap (λ (w : BookFault). refused_line (word_of (Node w))) is
 
--- ---- What comes of a refusal
+-- ---- The outcome of a refusal
 
 -- nothing is written after the writer failed
 pub of_writer : (refusal : CommandRefusal) (before after : Option (List ℕ)) (Unwritten : Type 0) (status : ℕ) → status ≡ 1 → IsOfWriter refusal → Unwritten

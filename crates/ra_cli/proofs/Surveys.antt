@@ -1,4 +1,4 @@
--- What comes of a script under many seeds, told of the input.
+-- The outcome of a script under many seeds, in terms of the input.
 use Rattle.std.proofs.Common.{◌≡◌, ◌↔◌, ◌≢◌, ℕ, Bool, List, Option, Ok, IsTrue, refl, subst}
 use Rattle.std.specs.Prelude.{IfSome}
 use Rattle.std.specs.Io.KnownBytes.{Consumes, Appends}
@@ -30,7 +30,7 @@ surveyed asked text script survey finished is surveys all = record {
   output_is = refl;
 }
 
--- what is told of the input was written
+-- what is said about the input was written
 pub surveys_by : (asked : SurveyTask) (old new before after : Option (List ℕ)) (told : List ℕ) (finished wanted : Bool) → finished ≡ wanted
     → IfSome old (λ input. IsTold asked input told finished × Consumes old new input) → (text : List ℕ) × IsTold asked text told finished
     → Appends before after told → SurveysBy asked old new before after wanted
@@ -51,7 +51,7 @@ unread asked input (fault.Cluster why) cluster h = absurd (cluster why refl)
 unread asked input fault.Choice cluster h = absurd h
 unread asked input fault.Memory cluster h = tt
 
--- why nothing is told of the seeds
+-- why nothing is said about the seeds
 pub untold : (asked : SurveyTask) (input : List ℕ) (why : ChoicesError)
     → (why ≡ choices.Choice → FoundHasNoWords asked input) → RefusesSurvey asked input (of_choices why)
 untold asked input choices.Choice wordless = wordless refl

@@ -60,7 +60,7 @@ of_part kind part old new before after Untouched draw.TooLong h = h.unfit (inr r
 of_part kind part old new before after Untouched draw.Memory h = tt
 of_part kind part old new before after Untouched draw.Write h = tt
 
--- ---- A text of which the writer took a prefix
+-- ---- A text from which the writer took a prefix
 
 pub of_answered : (node nodes : ℕ) (old before after : Option (List ℕ))
     → IfSome old (λ input. (prefix rest : List ℕ) × IsAnswered node nodes input (prefix ++ rest) × (rest ≢ []) × Appends before after prefix)

@@ -37,7 +37,7 @@ IsUnwanted node nodes message why =
     ((why ≡ fault.WrongNode) × (to_of message ≢ node))
     ⊎ (((why ≡ fault.Stranger) × IsStrange node nodes message) ⊎ (why ≡ fault.Memory))
 
--- a node's clock after it has received a frame: one more than the greater of its own clock and the frame's (L. Lamport,
+-- a node's clock after it has received a frame: the greater of its own clock and the frame's, plus 1 (L. Lamport,
 -- CACM 21(7), 1978)
 abbrev pub clock_after : ℕ → ℕ → ℕ
 clock_after own received = max own received + 1

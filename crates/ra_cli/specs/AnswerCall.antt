@@ -24,7 +24,7 @@ IsOfInput why = (why ≢ fault.Read) × (why ≢ fault.Write)
 pub record ComesTo {T : Type 0} (node nodes : ℕ) (old new before after : Option (List ℕ))
     (same_reader same_writer : Type 0)
     (result : Result T AnswerError) : Type 0 where
-  -- what is read is a line of digits to its end, and what is written is the answer to it and nothing else
+  -- what is read is a line of digits to its end, and only the answer to it is written
   pub ok : OnOk result (IfSome old
       (λ input. (output : List ℕ) × IsAnswered node nodes input output × Consumes old new input
       × Appends before after output))

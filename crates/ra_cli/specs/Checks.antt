@@ -84,8 +84,8 @@ ChecksMarks = Judges IsMarksVerdict is_run marks_verdict_text
 
 -- ---- Refusals
 
--- Why a check of a trace is refused. Of a reader that failed, what was read shows no verdict. Of a text that is too
--- long, 16,777,216 bytes of it show none, and one more came.
+-- Why a check of a trace is refused. If the reader failed, what was read has no verdict. If the text is too long, its
+-- first 16,777,216 bytes have none, and another byte came.
 abbrev pub RefusesCheck : (old new : Option (List ℕ)) → TraceError → Type 0
 RefusesCheck old new fault.Read = ReadsOn 16777216 old new
 RefusesCheck old new fault.Limit = PassesLimit 16777216 old new

@@ -39,10 +39,10 @@ SaysRun Lines nodes books moves report output = output ≡ report_text report
 SaysRun Trace nodes books moves report output = IsTrace nodes 0 moves output
 SaysRun Books nodes books moves report output = AreWrittenBooks books output
 
--- The output shows books that threads may have recorded of the script, or the one run into which they settle.
--- `IsRecord` tells all that is promised of both. Among it, the marks of each client are those of its operations, in
--- order. Nothing waits or is queued, and no message is lost or under way. Each lock of the script was requested, and
--- exactly two messages were sent for each request and other node.
+-- The output shows books that threads may have recorded of the script, or the one run that they settle into. `IsRecord`
+-- has all that is promised about both. For example, the marks of each client are its operations' marks, in order.
+-- Nothing waits or is queued, and no message is lost or under way. Each lock of the script was requested, and exactly
+-- two messages were sent for each request and other node.
 pub record SaysScript (printed : ClusterOutput) (script : ScriptState) (output : List ℕ) : Type 0 where
   pub books : List BookState
   pub settled : Settled

@@ -1,6 +1,6 @@
--- What a call that reads its input and then writes what comes of it takes from the reader and leaves in the writer.
--- `old` and `new` are what is left in the reader before and after it, and `before` and `after` what the writer
--- contains, if they tell.
+-- What a call that reads its input and then writes the outcome takes from the reader and leaves in the writer. `old`
+-- and `new` are what is left in the reader before and after it, and `before` and `after` what the writer contains, if
+-- they tell.
 use Rattle.std.specs.Prelude.{◌≡◌, ◌≢◌, ℕ, ◌≤◌, ◌<◌, List, [], ◌++◌, length, Result, Option, IfSome, IfErr, IsErrOf}
 use Rattle.std.specs.Io.KnownBytes.{Consumes, Appends}
 
@@ -17,8 +17,8 @@ abbrev pub BreaksOff : (text : List ℕ) → (before after : Option (List ℕ)) 
 BreaksOff text before after = (prefix rest : List ℕ) × (text ≡ prefix ++ rest) × (rest ≢ [])
     × Appends before after prefix
 
--- It takes at most this many bytes. `read` is the refusal for a fault of the reader, and `Refuses` says of which inputs
--- each refusal is.
+-- It takes at most this many bytes. `read` is the refusal for a fault of the reader, and `Refuses` says which inputs
+-- each refusal belongs to.
 pub record ReadsInput {T E : Type 0} (read : E) (most : ℕ) (Refuses : (input : List ℕ) → E → Type 0)
     (old new : Option (List ℕ))
     (result : Result T E) : Type 0 where

@@ -33,7 +33,7 @@ SaysWhyNot Marks input text =
 
 -- ---- What is read and written
 
--- the input is not of this kind and was read to its end, and the line that says why was written and nothing else
+-- the input is not of this kind and was read to its end, and only the line that says why was written
 abbrev pub IsNotDrawn : InputKind → (old new before after : Option (List ℕ)) → Type 0
 IsNotDrawn kind old new before after = (input text : List ℕ) × IsInput old new input × SaysWhyNot kind input text
     × Appends before after text
@@ -44,9 +44,8 @@ abbrev pub IsDrawing : InputKind → Part → (input text : List ℕ) → Type 0
 IsDrawing kind part input text =
     (IsOfKind kind input × IsDrawable part input × IsPicture part input text) ⊎ SaysWhyNot kind input text
 
--- Why a part is not drawn. Before it is judged, the whole input is read, of which fewer bytes came than may be drawn,
--- or more. If the part is the cause, the input is of this kind, and none of its lines is in the part, or more than
--- 4,096 are.
+-- Why a part is not drawn. Before it is judged, the whole input is read; it has fewer bytes than may be drawn, or more.
+-- If the part is the cause, the input is of this kind, and none of its lines is in the part, or more than 4,096 are.
 abbrev pub RefusesPart : InputKind → Part → (old new : Option (List ℕ)) → DrawError → Type 0
 RefusesPart kind part old new Read = StopsBefore 16777217 old new
 RefusesPart kind part old new Limit = (taken : List ℕ) × (length taken ≡ 16777217) × Consumes old new taken
@@ -64,7 +63,7 @@ abbrev pub Shows : InputKind → Part → (input : List ℕ) → (before after :
 Shows kind part input before after = IsOfKind kind input × IsDrawable part input
     × (picture : List ℕ) × IsPicture part input picture × Appends before after picture
 
--- the outcome of an input: a picture, or a denial that says why there is none. `Untouched` says that nothing was
+-- the outcome of an input: a picture, or a denial that says why none is drawn. `Untouched` says that nothing was
 -- written.
 abbrev pub ShowsOrDenies : InputKind → Part → (input : List ℕ) → (before after : Option (List ℕ)) → (Untouched : Type 0)
     → Option Denial → Type 0

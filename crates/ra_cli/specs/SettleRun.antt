@@ -42,7 +42,7 @@ text_cause_word cause.Twice = codes "Twice"
 abbrev pub unsettled_line : ℕ → TextCause → List ℕ
 unsettled_line number why = codes "invalid" ++ field (decimal number) ++ field (text_cause_word why) ++ codes "\n"
 
--- the input does not settle, and this says at which line, and why
+-- the input does not settle, and this says at which line and why
 abbrev pub Contradicts : SettleTask → (input output : List ℕ) → Type 0
 Contradicts asked input output =
     (number : ℕ) × (why : TextCause) × IsWrong asked.repeats input number why × (output ≡ unsettled_line number why)
@@ -78,9 +78,9 @@ RefusesBooks old new fault.Limit = (input : List ℕ) × Consumes old new input 
 RefusesBooks old new fault.Memory = Unit {0}
 
 -- Status 0: the input is a text of books that settle, and exactly the report or the trace of their run was written.
--- Status 3: it is no such text, and exactly the line that says where and why was written. Status 2: it is too long, or
--- memory ran out, and the line that says so was written. Status 1: the reader failed, and the line that says so was
--- written; or the writer failed, and only a prefix of what is printed was written.
+-- Status 3: it is no such text, and exactly the line that says so, with the place and the cause, was written. Status 2:
+-- it is too long, or memory ran out, and the line that says so was written. Status 1: the reader failed, and the line
+-- that says so was written; or the writer failed, and only a prefix of what is printed was written.
 pub record ServesSettle (asked : SettleTask) (old new before after : Option (List ℕ)) (status : ℕ) : Type 0 where
   pub range : status ≤ 3
   pub done : status ≡ 0

@@ -11,8 +11,7 @@ abbrev pub Writes : (text : List ℕ) → (wanted : ℕ) → (before after : Opt
 Writes text wanted before after status = ((status ≡ wanted) × Appends before after text)
     ⊎ ((status ≡ 1) × BreaksOff text before after)
 
--- status 2: the line of a refusal was written and nothing else, and the refusal is not that the reader or the
--- writer failed
+-- status 2: only the line of a refusal was written, and the cause is not a failure of the reader or the writer
 abbrev pub IsRefused : (before after : Option (List ℕ)) → Type 0
 IsRefused before after = (refusal : CommandRefusal) × (IsOfReader refusal → ⊥) × (IsOfWriter refusal → ⊥)
     × Appends before after (refused_line (word_of refusal))

@@ -28,7 +28,7 @@ abbrev pub spread_line : List ℕ → Option Spread → List ℕ
 spread_line word None = []
 spread_line word (Some spread) = word ++ field (decimal spread.least) ++ field (decimal spread.most) ++ codes "\n"
 
--- the lines of a survey: those of the three ends, and those of the two figures
+-- the lines of a survey: three for the ends, and two for the figures
 abbrev pub survey_text : Survey → List ℕ
 survey_text survey =
     tally_line (codes "finished") survey.finished

@@ -126,8 +126,8 @@ IsCauseFor (task.Cluster printed) old new why = (fault : RunScriptError) × (why
     × (fault ≡ run.Read → StopsBefore 65537 old new) × IfSome old (λ input. RefusesRun input fault)
 IsCauseFor (task.Help text) old new why = ⊥
 
--- status 2: the line of a refusal was written and nothing else, for such a cause, which is not that the reader or the
--- writer failed
+-- status 2: only the line of a refusal was written, for such a cause, which is not a failure of the reader or the
+-- writer
 abbrev pub IsRefusedBy : Task → (old new before after : Option (List ℕ)) → Type 0
 IsRefusedBy asked old new before after = (why : CommandRefusal) × (IsOfReader why → ⊥) × (IsOfWriter why → ⊥)
     × Appends before after (refused_line (word_of why)) × IsCauseFor asked old new why

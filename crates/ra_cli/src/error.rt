@@ -10,7 +10,7 @@ use ra_schedule::ChoicesError;
 use ra_script::ScriptError;
 use ra_text::ReadFault;
 
-/// Why `answer` gave no answer, in the order in which the causes are looked for.
+/// Why `answer` gave no answer. The causes are looked for in this order.
 #[derive(Clone, Copy)]
 pub enum AnswerError {
     /// The number of nodes is not 1 to 64.
@@ -37,8 +37,7 @@ pub enum AnswerError {
     Write,
 }
 
-/// Why a script was not run by threads to its end, or not under many seeds, in the order in which the causes are looked
-/// for.
+/// Why a script was not run by threads to its end, or not under many seeds. The causes are looked for in this order.
 #[derive(Clone, Copy)]
 pub enum RunScriptError {
     /// The reader failed.
@@ -47,7 +46,7 @@ pub enum RunScriptError {
     Script(ScriptError),
     /// Threads may not run it, or did not bring it to its end. It is never that memory ran out.
     Cluster(ClusterError),
-    /// The choices of the run that was found are to be printed, and a message is repeated, for which there is no word.
+    /// The choices of the run that was found are to be printed, and a message is repeated, which no word can say.
     Choice,
     /// Memory ran out.
     Memory,

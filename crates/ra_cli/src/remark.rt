@@ -3,8 +3,8 @@ use crate::refusal_lines::CommandRefusal;
 use ra_book_text::TextCause;
 use ra_trace::{Cause, Line, MarkCause};
 
-/// What a note tells a person about the outcome of a command. A note is made of it when everything else is done, so
-/// that it takes no part in what is printed.
+/// What a note tells a person about the outcome of a command. The note is made when everything else is done, so that it
+/// does not affect what is printed.
 #[derive(Clone, Copy)]
 pub enum Remark {
     /// It was refused.
@@ -32,7 +32,7 @@ pub enum Remark {
         line: u64,
         cause: MarkCause,
     },
-    /// The text is a trace in which this many messages were sent, or a run of the lock table, in which none is.
+    /// The text is a trace in which this many messages were sent, or a run of the lock table, which sends none.
     Ends {
         sent: u128,
     },

@@ -24,8 +24,8 @@ use std::sync::Wait;
 use std::thread::Threads;
 
 /// Does a command other than `cluster`, which [`run_by_threads`] does, and returns its outcome. It starts no thread,
-/// and waits for nobody but the reader and the writer. The observer learns of each seed. A text that is to be drawn or
-/// settled is left in `text`, unless that is refused.
+/// and waits only for the reader and the writer. The observer learns of each seed. A text to be drawn or settled is
+/// left in `text`, unless that is refused.
 pub fn do_alone<R: BufRead, W: Write, O: Observer>(
     alloc: Global,
     asked: &Command<'_>,
@@ -72,9 +72,9 @@ pub fn do_alone<R: BufRead, W: Write, O: Observer>(
 /// - 3: a run that ended with something left to do, a trace or a log that is not one, or books that do not settle.
 ///
 /// A refusal is printed as one line, `refused` and its word; `ra node` answers refused lines and goes on. No read or
-/// write that failed is tried again, and after a fault of the output nothing more is written. It waits for nobody but
-/// the reader and the writer, and with the command `cluster` for the threads that it starts. The reader has a buffer
-/// for the commands `check` and `node`, which take of it what they read.
+/// write that failed is tried again, and after a fault of the output nothing more is written. It waits only for the
+/// reader and the writer, and with the command `cluster` for the threads that it starts. The reader has a buffer for
+/// the commands `check` and `node`, which take from it what they read.
 pub fn serve<T: Threads + Wait + Sync, R: BufRead, W: Write>(
     rt: &T,
     alloc: Global,

@@ -46,11 +46,11 @@ fn member_of(node: u16, nodes: u16) -> Result<Member, AnswerError>
     Ok(Member::at(node - 1, count))
 }
 
-/// Returns the bytes that hexadecimal digits stand for.
+/// Returns the bytes that hexadecimal digits spell.
 ///
 /// # Errors
 ///
-/// `Hex`: they are no even number of hexadecimal digits. `Memory`, which may come before it: there is none for the
+/// `Hex`: they are not an even number of hexadecimal digits. `Memory`, which may come before it: there is none for the
 /// bytes.
 fn bytes_of(alloc: Global, digits: &[u8]) -> Result<Vec<u8>, AnswerError>
     ensures ok { IfOk result (λ bytes. decode_of digits.now ≡ Ok bytes.items) }
@@ -92,7 +92,7 @@ fn frame_in(alloc: Global, input: &[u8]) -> Result<Frame, AnswerError>
 ///
 /// # Errors
 ///
-/// `Memory`: a prefix of the line may be there.
+/// `Memory`: a prefix of the line may have been added.
 fn push_line(text: &mut Vec<u8>, frame: &Frame) -> Result<(), Memory>
     requires { Fits frame.now }
     ensures ok { OnOk result ((bytes : List ℕ) × IsWrittenText bytes frame.now
@@ -187,7 +187,7 @@ fn answer_to(alloc: Global, me: Member, input: &[u8]) -> Result<Vec<u8>, AnswerE
 ///
 /// 1. `BadCount`: there are not 1 to 64 nodes.
 /// 2. `BadNode`: the node is not 1 to `nodes`.
-/// 3. `Read`: the reader failed, before its end and before it gave so many bytes.
+/// 3. `Read`: the reader failed, before its end and before it gave that many bytes.
 /// 4. `Line`: more than [`MAX_LINE`] bytes come before a line feed, or bytes after it.
 /// 5. `Hex`: the line is no even number of hexadecimal digits.
 /// 6. `Frame`: the bytes are no frame.

@@ -68,8 +68,8 @@ fn recorded_text(
     }
 }
 
-/// Runs a script by threads, and returns what is printed of the one run into which the books of the nodes settle. It
-/// waits for the threads that it starts, and nothing bounds how long.
+/// Runs a script by threads, and returns what is printed of the one run that the nodes' books settle into. It waits for
+/// the threads that it starts, and nothing bounds how long.
 ///
 /// # Errors
 ///
@@ -88,9 +88,9 @@ fn text_of_run<T: Threads + Wait + Sync>(
     recorded_text(alloc, printed, script.nodes(), &recorded).or(Err(RunScriptError::Memory))
 }
 
-/// Reads the text of a script, runs it by threads, and returns what is printed of the one run into which the books of
-/// the nodes settle: the lines of its report, its trace, or these books. It takes at most 65,537 bytes from the reader,
-/// and no read that failed is tried again. It waits for the threads that it starts, and nothing bounds how long.
+/// Reads the text of a script, runs it by threads, and returns what is printed of the one run that the nodes' books
+/// settle into: the lines of its report, its trace, or these books. It takes at most 65,537 bytes from the reader, and
+/// no read that failed is tried again. It waits for the threads that it starts, and nothing bounds how long.
 ///
 /// # Errors
 ///
@@ -98,7 +98,7 @@ fn text_of_run<T: Threads + Wait + Sync>(
 ///
 /// 1. `Read`: the reader failed, before its end and before it gave 65,537 bytes.
 /// 2. `Script`: the input is no script.
-/// 3. `Cluster`: threads may not run the script, for which no thread was started, or did not bring it to its end.
+/// 3. `Cluster`: threads may not run the script, and no thread was started, or they did not bring it to its end.
 /// 4. `Memory`: memory ran out.
 pub fn run_script<T: Threads + Wait + Sync, R: Read>(
     rt: &T,

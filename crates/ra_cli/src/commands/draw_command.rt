@@ -95,7 +95,7 @@ fn draw_log<R: Read, W: Write>(
     }
 }
 
-/// Draws a part of the reader's input, or says why it is not of this kind, for which nothing is written. In both cases
+/// Draws a part of the reader's input, or says why it is not of this kind and writes nothing. In both cases
 /// the whole input is left in `text`.
 ///
 /// # Errors

@@ -22,7 +22,7 @@ pub fn be_a_node<R: BufRead, W: Write>(
 {
     match answer_book(alloc, reader, writer) {
         Ok(()) => ALL_DONE,
-        // This was answered, so its line is there already.
+        // This was answered, so its line is written already.
         Err(BookFault::Line) => CommandOutcome {
             status: REFUSED,
             remark: Some(Remark::Refused(CommandRefusal::Node(BookFault::Line))),

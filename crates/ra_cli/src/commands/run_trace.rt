@@ -8,8 +8,8 @@ use ra_trace::trace_text;
 use ra_world::Steps;
 use std::alloc::Global;
 
-/// Returns the trace of a run of this many nodes, all of whose numbers begin at `start`, by its steps. They are made
-/// once more for it.
+/// Returns the trace of a run of this many nodes, with all numbers beginning at `start`, from its steps. They are made
+/// again for it.
 ///
 /// # Errors
 ///

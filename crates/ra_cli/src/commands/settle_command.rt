@@ -109,10 +109,10 @@ fn settle_input<W: Write>(
     }
 }
 
-/// Reads the books of all nodes, one after the other in one text, and prints the report of the run into which they
-/// settle as asked, or its trace, with status 0. If they do not settle, it prints the line that is wrong, and the
-/// cause, with status 3. The status is 2 if the text has more than 1,073,741,824 bytes or memory ran out, and 1 if the
-/// reader or the writer failed. A text of at most the allowed length is left in `text`.
+/// Reads the books of all nodes, one after the other in one text, and prints the report of the run that they settle
+/// into as asked, or its trace, with status 0. If they do not settle, it prints the line that is wrong, and the cause,
+/// with status 3. The status is 2 if the text has more than 1,073,741,824 bytes or memory ran out, and 1 if the reader
+/// or the writer failed. A text of at most the allowed length is left in `text`.
 pub fn settle_books<R: Read, W: Write>(
     alloc: Global,
     asked: SettleTask,

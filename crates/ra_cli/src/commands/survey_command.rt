@@ -59,15 +59,15 @@ fn counted_of<O: Observer>(
     })
 }
 
-/// Returns what is to be printed of the run by the first seed by which a script comes to the end that is looked for,
-/// and whether that run is finished. If there is no such run, returns a line that says so, and whether that is as it
-/// should be.
+/// Returns what is to be printed of the run with the first seed that brings a script to the end that is looked for, and
+/// whether that run is finished. If there is no such run, returns a line that says so, and whether that is as it should
+/// be.
 ///
 /// # Errors
 ///
 /// The first that holds, except that `Memory` may come before the other:
 ///
-/// 1. `Choice`: the choices are to be printed, and a message is repeated, for which there is no word.
+/// 1. `Choice`: the choices are to be printed, and a message is repeated, which no word can say.
 /// 2. `Memory`: memory ran out.
 fn found_of<O: Observer>(
     alloc: Global,
@@ -146,7 +146,7 @@ fn told_of<O: Observer>(
 ///
 /// 1. `Read`: the reader failed, before its end and before it gave 65,537 bytes.
 /// 2. `Script`: the input is no script.
-/// 3. `Choice`: choices are to be printed, and a message is repeated, for which there is no word.
+/// 3. `Choice`: choices are to be printed, and a message is repeated, which no word can say.
 /// 4. `Memory`: memory ran out.
 pub fn survey_script<R: Read, O: Observer>(
     alloc: Global,

@@ -5,7 +5,7 @@ use Rattle.ra_world.specs.Traffic.{Move}
 use Rattle.ra_trace.specs.TraceText.{IsTrace}
 use Rattle.ra_cli.proofs.commands.cluster_command.recorded_text.Goals as goal
 
--- the trace of a run with the same steps is that of the run
+-- a run with the same steps has the same trace
 pub returns-in-Trace : goal.returns-in-Trace
 returns-in-Trace c =
     let nodes = c.args.nodes in

@@ -48,7 +48,7 @@ returns-in_err-told-clause-reads g c =
     (λ input h. untold c.args.asked.now input why (λ is. c.in_err-told.ensures.wordless input h.0 (ap Err is)))
     c.in_ok-script.ensures.ok) (λ e. choices_no_read why e) c.in_ok-script.ensures.reads.at_most
 
--- what is told of the seeds
+-- what is said about the seeds
 
 pub returns-clause-ok : goal.returns-clause-ok
 returns-clause-ok g c =
