@@ -199,7 +199,7 @@ along_by limit left old now new checker after number line bytes along taken begi
   checker_is = checker_is;
 }
 
--- after one more line, which was right and is not the last one
+-- after another line, which was right and is not the last one
 pub along_more : (limit left : ℕ) (old now new : Option (List ℕ)) (checker after : Checker) (number : ℕ) (line : Line) (bytes : List ℕ)
     → IsAlong limit left old now checker number → TakesBytes left now new bytes → BeginsReadable bytes line [] → line ≢ Last
     → Takes checker line after → IsAlong limit (left - length bytes) old new after (number + 1)

@@ -60,7 +60,7 @@ before_unread low high text n small free unread =
           by_cut low high text (Some parts) found ∙ ap (option_map (λ (field : ℕ). (field, parts.1))) none
     ]
 
--- one more byte is no space
+-- another byte is no space
 pub free_more : (text : List ℕ) (i : ℕ) → ((k : ℕ) → k < i → get_or text k 0 ≢ 32) → get_or text i 0 ≢ 32 → (k : ℕ) → k < i + 1 → get_or text k 0 ≢ 32
 free_more text i free other k before =
     elim (cases_lt k i) [
@@ -68,7 +68,7 @@ free_more text i free other k before =
       | inr here ↦ let same : i ≡ k = omega (arith, before, here) in subst (λ (n : ℕ). get_or text n 0 ≢ 32) same other
     ]
 
--- one more byte is no digit
+-- another byte is no digit
 pub not_all : (text : List ℕ) (i : ℕ) → i < length text → is_ascii_digit (get_or text i 0) ≡ false → list_all is_ascii_digit (take (i + 1) text) ≡ true → ⊥
 not_all text i inside other each =
     false≢true (sym other ∙ (and_parts (list_all is_ascii_digit (take i text)) (is_ascii_digit (get_or text i 0)) (sym (list_all_more is_ascii_digit text i 0 inside) ∙ each)).1)

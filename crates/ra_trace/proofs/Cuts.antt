@@ -23,7 +23,7 @@ pub if_false : {A : Type 0} (b : Bool) (x y : A) → b ≡ false → (if b then 
 if_false true x y is = absurd (false≢true (sym is))
 if_false false x y is = refl
 
--- what is cut after one more byte
+-- what is cut after another byte
 abbrev longer : ℕ → List ℕ × List ℕ → List ℕ × List ℕ
 longer b parts = (b ∷ parts.0, parts.1)
 

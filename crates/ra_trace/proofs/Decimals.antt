@@ -74,7 +74,7 @@ is_within low high digits some first each least most =
     let plain : (length digits == 1 || not (get_or digits 0 0 == 48)) ≡ true = grind (arith, nat_tests) in
     rw (le-leb 1 (length digits) some, each, plain, le-leb low (digits_value 10 digits) least, le-leb (digits_value 10 digits) high most)
 
--- otherwise it is none
+-- otherwise it is not a number
 pub is_not_within : (low high : ℕ) (digits : List ℕ) → (is_decimal digits ≡ true → low ≤ digits_value 10 digits → digits_value 10 digits ≤ high → ⊥)
     → number_within low high digits ≡ None
 is_not_within low high digits other =
@@ -118,7 +118,7 @@ none_if_greater low high digits greater = is_not_within low high digits (λ good
 -- whether a field is a number of a range
 pub ruleset ranges = (is_within, none_if_empty, none_if_zero_leads, none_if_unread, none_if_less, none_if_greater)
 
--- a number of a range is read from how it is written, and from nothing else
+-- a number of a range is read from its one spelling, and from no other text
 pub number_within-only : (low high : ℕ) (digits : List ℕ) (n : ℕ) → high < 2 ^ 64 → number_within low high digits ≡ Some n → (low ≤ n) × (n ≤ high) × (digits ≡ decimal n)
 number_within-only low high digits n small e =
     elim (cases_Bool (is_decimal digits)) [

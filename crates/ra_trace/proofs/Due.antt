@@ -25,7 +25,7 @@ first_left [] (suc k) x others e = absurd cc
 first_left (y ∷ xs) zero x others e = let same : y ≡ x = cc in ap Some same
 first_left (y ∷ xs) (suc k) x others e = first_left xs k x others e
 
--- what a look-up in these items found, or that there is none
+-- what a look-up in these items found, or the fact that nothing is found
 pub found_at : {X : Type 0} (shown xs : List X) (k : ℕ) (x : X) → shown ≡ xs → true ≡ ltb k (length shown) → x ≡ get_or shown k x → slice_get xs k ≡ Some x
 found_at {X} shown xs k x same inside is =
     subst (λ (items : List X). slice_get items k ≡ Some x) same (slice_get-get_or shown k x (ltb-true k (length shown) (sym inside)) ∙ ap Some (sym is))
@@ -53,7 +53,7 @@ sent_is_due tells sends told marks message at some =
 pub some_is_due : (tells : Bool) (sends : List Message) (told : ℕ) → slice_get sends told ≡ None → (cond tells (drop told sends) [] ≡ [] → ⊥) → ⊥
 some_is_due tells sends told at some = some (all_told tells (drop told sends) some ∙ none_left sends told at)
 
--- otherwise that of a mark
+-- otherwise the line of a mark
 pub mark_is_due : (sends : List Message) (marks : List Mark) (come : ℕ) (mark : Mark) → slice_get marks come ≡ Some mark → sends ≡ []
     → ◌≡◌ {A = Option Line} (Some (Marked mark)) (slice_get (map Sent sends ++ map Marked (drop come marks)) 0)
 mark_is_due sends marks come mark at none =

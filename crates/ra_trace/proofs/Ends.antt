@@ -22,7 +22,7 @@ free [] h = All-nil (λ b. (b == 10) ≡ false)
 free (b ∷ bytes) h =
     All-cons (λ b. (b == 10) ≡ false) b bytes (ne_eqb b 10 (All-head (λ byte. byte ≢ 10) b bytes h)) (free bytes (All-tail (λ byte. byte ≢ 10) b bytes h))
 
--- a line feed is after all bytes that are none
+-- a line feed comes after all bytes that are not line feeds
 feed_is_late : (bytes more before rest : List ℕ) → NoFeed bytes → bytes ++ more ≡ before ++ 10 ∷ rest → length bytes ≤ length before
 feed_is_late [] more before rest h e = omega arith
 feed_is_late (b ∷ bytes) more [] rest h e = absurd (All-head (λ byte. byte ≢ 10) b bytes h cc)
@@ -49,7 +49,7 @@ no_line_in bytes more h where_ line rest begins =
       | inr long ↦ absurd (omega (arith, late, short, long))
     ]
 
--- if its line feed came, the line is there already
+-- if its line feed came, the line is complete already
 begins_at_feed : (before more : List ℕ) (line : Line) (rest : List ℕ) → NoFeed before → BeginsReadable ((before ++ 10 ∷ []) ++ more) line rest
     → BeginsReadable (before ++ 10 ∷ []) line []
 begins_at_feed before more line rest h begins =

@@ -238,7 +238,7 @@ memory_there laws limit left old now new log number mark bytes along taken begin
       omega (arith, more.1),
     )
 
--- ---- What comes of a line
+-- ---- The outcome of a line
 
 mark_turns : TableLaws → (limit left : ℕ) (old now new : Option (List ℕ)) (log after : MarkLog) (number : ℕ) (mark : Mark) (bytes : List ℕ)
     (result : Result MarkJudgement TraceError) → IsAlongMarks limit left old now log number → TakesBytes left now new bytes

@@ -31,7 +31,7 @@ steps_in_line Last = []
 abbrev pub steps_in : List Line → List Step
 steps_in lines = flat_map steps_in_line lines
 
--- and the messages that are told
+-- and the messages that the trace tells
 abbrev sent_in_line : Line → List Message
 sent_in_line (First version nodes start) = []
 sent_in_line (Stepped step) = []
@@ -191,9 +191,9 @@ one_prefix laws version n start moves due version' n' start' moves' due' lines a
     let whole = a.lines_are ∙ (λ i. First (named i) (count i) (from i) ∷ flat_map (move_lines (named i)) (same i)) ∙ sym b.lines_are in
     record { named = named; count = count; from = from; run = same; left = one_due due due' (append_cancel_left lines (due_lines due) (due_lines due') whole) }
 
--- ---- The place of a line among those of moves
+-- ---- The place of a line among the lines of moves
 
--- a step's line, after those of the moves before
+-- a step's line, after the lines of the moves before
 pub record AtStep (version : Version) (moves : List Move) (prefix : List Line) (line : Line) : Type 0 where
   pub before : List Move
   pub move : Move
@@ -202,7 +202,7 @@ pub record AtStep (version : Version) (moves : List Move) (prefix : List Line) (
   pub prefix_is : prefix ≡ flat_map (move_lines version) before
   pub line_is : line ≡ Stepped move.step
 
--- the line of a send or a mark, after those of the moves before and the first ones of its own move
+-- the line of a send or a mark, after the lines of the moves before and the first ones of its own move
 pub record AtDue (version : Version) (moves : List Move) (prefix : List Line) (line : Line) : Type 0 where
   pub before : List Move
   pub move : Move
@@ -405,7 +405,7 @@ next_due laws version n start moves prefix line count run each m =
     } in
     next_of_due laws version n start (m.before ++ m.move ∷ []) m.due.sends m.due.marks (First version n start ∷ prefix) line m.others here m.next_is
 
--- the last line is none that is due
+-- the last line is not a line that is due
 last_is_not_due : (sends : List Message) (marks : List Mark) (others : List Line) → map Sent sends ++ map Marked marks ≡ Last ∷ others → ⊥
 last_is_not_due (m ∷ sends) marks others e = cc
 last_is_not_due [] (mark ∷ marks) others e = cc
@@ -450,7 +450,7 @@ prefix_of_trace version n start moves text trace = record {
   lines_are = append-nil (First version n start ∷ flat_map (move_lines version) moves);
 }
 
--- a place in a list with one more element: that one, or one of the others
+-- a place in a list with another element at its end: the last place, or one before it
 record AtEnd (prefix : List Line) (line : Line) (lines : List Line) (last : Line) : Type 0 where
   prefix_is : prefix ≡ lines
   line_is : line ≡ last
@@ -509,7 +509,7 @@ one_trace laws version n start moves text version' n' start' moves' text' a b e 
 
 -- ---- A prefix goes on
 
--- by a step, of which all is due then
+-- by a step, and then all its lines are due
 pub prefix_and_step : (version : Version) (n start : ℕ) (moves : List Move) (lines : List Line) (move : Move) → IsTracePrefix version n start moves (marks_due []) lines
     → IsRun n start (moves ++ move ∷ []) → IsLine version (Stepped move.step)
     → IsTracePrefix version n start (moves ++ move ∷ []) (due_after version move) (lines ++ Stepped move.step ∷ [])
@@ -548,7 +548,7 @@ prefix_and_mark version n start moves mark others lines prefix ranges = record {
   lines_are = append_assoc lines (Marked mark ∷ []) (map Marked others) ∙ prefix.lines_are;
 }
 
--- by the last line, with which it is a trace
+-- by the last line, which completes a trace
 pub prefix_and_last : (version : Version) (n start : ℕ) (moves : List Move) (lines : List Line) → IsTracePrefix version n start moves (marks_due []) lines
     → (lines ++ Last ∷ [] ≡ trace_lines version n start moves) × IsTraceIn version n start moves (flat_map line_text (lines ++ Last ∷ []))
 prefix_and_last version n start moves lines prefix =

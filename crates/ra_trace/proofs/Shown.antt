@@ -30,12 +30,12 @@ over_at most shown place inside few here before =
     let is = take_more shown place 0 inside ∙ ap (λ (b : ℕ). take place shown ++ b ∷ []) here in
     (omega (arith, inside), omega (arith, few), (take place shown, none_before shown place (omega (arith, inside)) before, is))
 
--- there is none among so many
+-- none of the first bytes is a line feed
 not_over : (most : ℕ) (shown : List ℕ) (count : ℕ) → count ≡ min (length shown) most → ((k : ℕ) → k < count → get_or shown k 0 ≢ 10)
     → IsPart most shown count false
 not_over most shown count is before = (omega (arith, is), omega (arith, is), none_before shown count (omega (arith, is)) before)
 
--- it is where it was found first among all
+-- it is at the first place at which it is found
 pub feed_at : (most : ℕ) (shown : List ℕ) (found : Option ℕ) (end : ℕ) → IsFirstByte (is_byte 10) shown found → end ≡ unwrap_or found most → end < most
     → IsPart most shown (end + 1) true
 feed_at most shown None end is at less = absurd (omega (arith, at, less))
@@ -44,7 +44,7 @@ feed_at most shown (Some place) end is at less =
     (λ k before same. is.0.before k (omega arith) before (eq-eqb _ 10 same)) in
     subst (λ (n : ℕ). IsPart most shown (n + 1) true) (sym at) there
 
--- it was not found among so many
+-- it was not found among this many
 pub no_feed_in : (most : ℕ) (shown : List ℕ) (found : Option ℕ) (end count : ℕ) → IsFirstByte (is_byte 10) shown found → end ≡ unwrap_or found most
     → most ≤ end → count ≡ min (length shown) most → IsPart most shown count false
 no_feed_in most shown None end count is at late count_is =

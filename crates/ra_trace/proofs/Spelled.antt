@@ -23,7 +23,7 @@ pub record Reads {A : Type 0} (read : List ℕ → Option A) (Is : A → Type 0)
   pub each : (x : A) → Is x → read (spell x) ≡ Some x
   pub no_feed : (x : A) → Is x → IsFree 10 (spell x)
 
--- nor is there a space in it
+-- and it has no space
 pub record ReadsField {A : Type 0} (read : List ℕ → Option A) (Is : A → Type 0) (spell : A → List ℕ) : Type 0 where
   pub reads : Reads read Is spell
   pub no_space : (x : A) → Is x → IsFree 32 (spell x)
@@ -150,7 +150,7 @@ mode_each IntentShared = refl
 mode_each IntentExclusive = refl
 mode_each SharedIntentExclusive = refl
 
--- no byte below that of `I` is in a mode's word
+-- no byte below `I` is in a mode's word
 one_more : (byte b : ℕ) (bytes : List ℕ) → byte < 73 → 73 ≤ b → IsFree byte bytes → IsFree byte (b ∷ bytes)
 one_more byte b bytes low high free = All-cons (λ b. (b == byte) ≡ false) b bytes (ne_eqb b byte (omega arith)) free
 

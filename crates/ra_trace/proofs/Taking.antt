@@ -64,7 +64,7 @@ pub nothing_due : (tells : Bool) (sends : List Message) (marks : List Mark) → 
 nothing_due true sends marks told come = λ i. record { sends = told i; marks = come i }
 nothing_due false sends marks told come = λ i. record { sends = []; marks = come i }
 
--- so many nodes its version does not have
+-- its version does not have this many nodes
 pub opens_not : (version : Version) (nodes start : ℕ) → has_node version nodes ≡ false → (any : Version) → IsLine any (First version nodes start) → ⊥
 opens_not version nodes start not_so any is =
     node_is_not version nodes not_so (subst (λ (v : Version). IsNodeIn v nodes) (sym is.0) is.1)
@@ -404,7 +404,7 @@ pub sent_is_taken : (old : Checker) (message : Message) (left : List Message) �
 sent_is_taken old message left allowed now then =
     record { on = λ lines ranges checker_is. taken_by_sent old message left now then lines (sent_is old.version message ranges allowed) checker_is }
 
--- ---- Lines that are right, and for which there is no memory
+-- ---- Lines that are right, but memory for them is lacking
 
 pub first_may_come : LawsBelow → (version : Version) (nodes start : ℕ) → has_node version nodes ≡ true → IsReadable (First version nodes start)
     → HasBegun (First version nodes start ∷ [])

@@ -64,7 +64,7 @@ start_of (Sent message ∷ lines) = 0
 start_of (Marked mark ∷ lines) = 0
 start_of (Last ∷ lines) = 0
 
--- the marks before the first step of the lines, and those of each step
+-- the marks before the first step of the lines, and the marks of each step
 abbrev marks_by_step : List Line → List Mark × List (List Mark)
 marks_by_step [] = ([], [])
 marks_by_step (First version nodes start ∷ lines) = marks_by_step lines

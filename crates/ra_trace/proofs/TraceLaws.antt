@@ -1,4 +1,5 @@
--- The laws of runs and of the lock table on which traces and mark logs depend. A proof names them, and no code calls them.
+-- The laws of runs and of the lock table that traces and mark logs depend on. A proof names them, and no code calls
+-- them.
 use Rattle.std.proofs.Common.{refl}
 use Rattle.ra_table.specs.Table.{empty_table}
 use Rattle.ra_table.proofs.History.{same_entries}
@@ -10,7 +11,7 @@ use Rattle.ra_world.proofs.WorldLaws.{laws_below}
 use Rattle.ra_trace.specs.Below.{LawsBelow}
 use Rattle.ra_trace.specs.MarksAlong.{TableLaws}
 
--- the laws on which traces depend
+-- the laws that traces depend on
 pub traces_rest_on_runs : LawsBelow
 traces_rest_on_runs = record {
   none = nothing_happened;
@@ -23,7 +24,7 @@ traces_rest_on_runs = record {
   goes_on = next_mark;
 }
 
--- the laws on which mark logs depend
+-- the laws that mark logs depend on
 pub mark_logs_rest_on_tables : TableLaws
 mark_logs_rest_on_tables = record {
   empty = refl;

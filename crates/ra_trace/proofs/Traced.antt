@@ -93,7 +93,7 @@ move_lines_text version move =
     (flat_map-append line_text sent (map Marked move.marks) ∙ ap (λ (xs : List ℕ). flat_map line_text sent ++ xs) (marked move.marks))
     ∙ sym (append_assoc (step_line move.step) (flat_map line_text sent) (flat_map mark_line move.marks))
 
--- the lines of one more move
+-- the lines of another move
 prefix_more : (version : Version) (n start : ℕ) (moves : List Move) (move : Move) → prefix_text version n start (moves ++ move ∷ []) ≡ prefix_text version n start moves ++ move_text version move.step move.sends move.marks
 prefix_more version n start moves move =
     let first = line_text (First version n start) in
@@ -295,7 +295,7 @@ lines_fit version wide (move ∷ moves) may fits numbers =
     (All-append (IsLine version) (sent_lines version move.sends) (map Marked move.marks) (sends_fit version move.sends here.2 sends.0) (marks_fit version wide move.marks marks_may here.1 marks.0)))
     (lines_fit version wide moves rest_may (All-tail (MoveFits version) move moves fits) (record { marks = marks.1; taken = takes.1; repeated = repeats.1; sent = sends.1 }))
 
--- steps of which none is a cancel
+-- steps without a cancel
 none_cancels : (moves : List Move) → plain_version (map (λ (move : Move). move.step) moves) ≡ Two → cancels_by moves ≡ 0
 none_cancels [] plain = refl
 none_cancels (move ∷ moves) plain =

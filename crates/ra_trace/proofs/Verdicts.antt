@@ -26,7 +26,7 @@ use Rattle.ra_trace.proofs.Lines.{begins_once, begins_in_one}
 use Rattle.ra_trace.proofs.Versions.{readable}
 use Rattle.ra_trace.proofs.Prefixes.{MayFollow, not_empty, one_prefix, in_prefix, next_in_trace, no_trace, one_trace}
 
--- ---- What is wrong with a line that is there
+-- ---- What is wrong with a line that was read
 
 -- no message is still to be told, and the line has its form and its place, but is wrong for this cause
 abbrev BlameMarks : ℕ → ℕ → List Move → List Mark → List Line → Line → Cause → Type 0
@@ -316,7 +316,7 @@ next_is_not_wrong laws version prefix line text rest why next begins w =
 
 -- ---- Two prefixes of one text
 
--- the lines in front of a wrong one, and those of a trace
+-- the lines in front of a wrong one, and the lines of a trace
 abbrev pub AreRight : List Line → Type 0
 AreRight lines =
     (lines ≡ [])

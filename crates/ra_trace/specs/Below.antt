@@ -7,7 +7,7 @@ use Rattle.ra_table.specs.Laws.{AllowsMark}
 use Rattle.ra_world.specs.Traffic.{Move}
 use Rattle.ra_world.specs.Run.{IsRun, marks_of}
 
--- the laws of runs and of the lock table on which the laws of traces depend
+-- the laws of runs and of the lock table that the laws of traces depend on
 pub record LawsBelow : Type 0 where
   -- of runs
   pub none : (n start : ℕ) → IsRun n start []

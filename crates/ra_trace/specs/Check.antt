@@ -21,7 +21,7 @@ use Rattle.ra_trace.specs.MarksReading.{JudgesMarks, ReadsOnMarks, PassesMarksLi
 -- The answer of a check of a trace, which may have this many bytes. `old` is what was left in the reader before it, if
 -- the reader tells, and `new` is what is left after it.
 pub record ChecksTrace (most : ℕ) (old new : Option (List ℕ)) (result : Result Verdict TraceError) : Type 0 where
-  -- the verdict is that of the whole input, even if that is longer than what was read
+  -- the verdict is the verdict on the whole input, even if that is longer than what was read
   pub ok : IfOk result (λ verdict. IfSome old (λ input. IsVerdict input verdict))
   -- a valid text was read to its end, and is no longer than it may be
   pub valid : IfOk result (λ verdict. IfSome old (λ input. (requests messages : ℕ)
@@ -41,16 +41,16 @@ pub record ChecksTrace (most : ℕ) (old new : Option (List ℕ)) (result : Resu
   pub trace : IfOk result (λ verdict. IfSome old (λ input. (version : Version) (n start : ℕ) (moves : List Move)
       → IsTraceIn version n start moves input
       → verdict ≡ Valid (requests_in (marks_of moves)) (length (sent_by moves))))
-  -- what was read before a refusal leaves the verdict open; if memory ran out, it was right lines and nothing else
+  -- what was read before a refusal leaves the verdict open; if memory ran out, it was only right lines
   pub failed : IsErrOf result Read → ReadsOn most old new
   pub limit : IsErrOf result Limit → PassesLimit most old new
   pub memory : IsErrOf result Memory → StopsAfter most old new
-  -- at most one byte is read beyond what the text may have
+  -- at most one byte is read past what the text may have
   pub at_most : (taken : List ℕ) × (length taken ≤ most + 1) × Consumes old new taken
 
 -- the answer of a check of a mark log, which may have this many bytes, likewise
 pub record ChecksLog (most : ℕ) (old new : Option (List ℕ)) (result : Result MarksVerdict TraceError) : Type 0 where
-  -- the verdict is that of the whole input, even if that is longer than what was read
+  -- the verdict is the verdict on the whole input, even if that is longer than what was read
   pub ok : IfOk result (λ verdict. IfSome old (λ input. IsMarksVerdict input verdict))
   -- if the marks are a run of the lock table, the input was read to its end, and is no longer than it may be
   pub valid : IfOk result (λ verdict. IfSome old (λ input. (requests grants : ℕ)
@@ -65,10 +65,9 @@ pub record ChecksLog (most : ℕ) (old new : Option (List ℕ)) (result : Result
       (other : MarksVerdict) → IsMarksVerdict input other ↔ (verdict ≡ other)))
   pub run : IfOk result (λ verdict. IfSome old (λ input. (marks : List Mark)
       → IsMarkRun marks → input ≡ marks_text marks → verdict ≡ log.Valid (requests_in marks) (grants_in marks)))
-  -- what was read before a refusal leaves the verdict open; if memory ran out, it was the lines of a run and nothing
-  -- else
+  -- what was read before a refusal leaves the verdict open; if memory ran out, it was only the lines of a run
   pub failed : IsErrOf result Read → ReadsOnMarks most old new
   pub limit : IsErrOf result Limit → PassesMarksLimit most old new
   pub memory : IsErrOf result Memory → StopsAfterMarks most old new
-  -- at most one byte is read beyond what the text may have
+  -- at most one byte is read past what the text may have
   pub at_most : (taken : List ℕ) × (length taken ≤ most + 1) × Consumes old new taken

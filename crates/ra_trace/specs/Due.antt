@@ -1,4 +1,4 @@
--- Which line is due at a line of a text: that of a message or a mark of the step before.
+-- Which line is due at a line of a text: the line of a message or a mark of the step before.
 use Rattle.std.specs.Prelude.{◌≡◌, ℕ, ◌+◌, List, ◌++◌, ◌⊎◌, Option, Result, Ok, IfSome, flat_map, length, slice_get}
 use Rattle.ra_world.specs.Traffic.{Move}
 use Rattle.ra_trace.specs.declared.error.TraceError.{TraceError}
@@ -10,8 +10,8 @@ use Rattle.ra_trace.specs.declared.line.version.Version.{Version}
 use Rattle.ra_trace.specs.TraceText.{line_text}
 use Rattle.ra_trace.specs.Verdict.{Due, IsTracePrefix, due_lines}
 
--- the lines of the text before this one, counted from 1, are those of a run but for what of its last move is still due,
--- and `next` is the first line of that, or `None` if there is none
+-- the lines of the text before this one, counted from 1, are the lines of a run without those of its last move that are
+-- still due; `next` is the first line that is due, or `None` if none is
 pub record IsDueAt (text : List ℕ) (line : ℕ) (next : Option Line) : Type 0 where
   pub prefix : List Line
   pub rest : List ℕ

@@ -205,7 +205,7 @@ pub record Form : Type 0 where
   pub words : List ℕ
   pub read : List ℕ → Option Line
 
--- the twenty forms, which begin differently, those of most lines first
+-- the twenty forms, which begin differently, with the forms of most lines first
 abbrev pub forms : List Form
 forms =
     record { words = codes "request "; read = λ rest. option_map (λ entry. Marked (Requested entry)) (entry_in rest) } ∷

@@ -40,7 +40,7 @@ grants_in (Withdrawn e ∷ marks) = grants_in marks
 abbrev pub BeginsWithMark : List ℕ → Mark → List ℕ → Type 0
 BeginsWithMark text mark rest = IsMarkLine Three mark × (text ≡ mark_line mark ++ rest)
 
--- the first cause for which the lock table refuses a mark
+-- the first cause that the lock table has to refuse a mark
 abbrev pub TableRefuses : LockTable → Mark → MarkCause → Type 0
 TableRefuses table (Requested e) why =
     ((why ≡ cause.NodeBusy) × IsNodeBusy table e)

@@ -19,7 +19,7 @@ use Rattle.ra_trace.specs.TraceText.{IsMarkLine}
 use Rattle.ra_trace.specs.Marks.{marks_text, grants_in, TableRefuses}
 use Rattle.ra_trace.specs.MarksReading.{JudgesMarks, AnswersMarks}
 
--- the laws of the lock table on which mark logs depend
+-- the laws of the lock table that mark logs depend on
 pub record TableLaws : Type 0 where
   pub empty : TableRun [] empty_table
   pub splits : (prefix rest : List Mark) (a c : LockTable) → TableSteps a (prefix ++ rest) c
@@ -30,7 +30,7 @@ pub record TableLaws : Type 0 where
       → AllowsMark table mark ↔ ((next : LockTable) × TableRun (marks ++ mark ∷ []) next)
   pub same : (marks : List Mark) (a b : LockTable) → TableRun marks a → TableRun marks b → SameEntries a b
 
--- the log after one more mark
+-- the log after another mark
 pub record TakesMark (old : MarkLog) (mark : Mark) (new : MarkLog) : Type 0 where
   pub step : TableStep old.table mark new.table
   pub requests_is : new.requests ≡ old.requests + requests_in (mark ∷ [])

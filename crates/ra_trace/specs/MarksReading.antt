@@ -35,7 +35,7 @@ abbrev pub ReadsOnMarks : ℕ → Option (List ℕ) → Option (List ℕ) → Ty
 ReadsOnMarks limit old new =
     (marks : List Mark) × (rest : List ℕ) × HasReadMarks limit old new marks rest × IsOpenLine rest
 
--- no verdict was reached within the limit, and one more byte came
+-- no verdict was reached within the limit, and another byte came
 abbrev pub PassesMarksLimit : ℕ → Option (List ℕ) → Option (List ℕ) → Type 0
 PassesMarksLimit limit old new =
     (marks : List Mark) × (rest : List ℕ) × (byte : ℕ) × HasReadMarks (limit + 1) old new marks (rest ++ byte ∷ [])

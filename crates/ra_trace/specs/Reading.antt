@@ -12,14 +12,14 @@ use Rattle.ra_trace.specs.declared.line.version.Version.{Version}
 use Rattle.ra_trace.specs.TraceText.{IsTraceIn, line_text, trace_lines}
 use Rattle.ra_trace.specs.Verdict.{Due, IsTracePrefix, IsWrong, IsVerdict}
 
--- the lines are those of a whole trace
+-- the lines are the lines of a whole trace
 abbrev pub IsWhole : List Line → Type 0
 IsWhole prefix =
     (version : Version) × (n start : ℕ) × (moves : List Move)
     × IsTraceIn version n start moves (flat_map line_text prefix)
     × (prefix ≡ trace_lines version n start moves)
 
--- the lines are those of a prefix of a trace: the last one has not come
+-- the lines are the lines of a prefix of a trace: the last one has not come
 abbrev pub HasBegun : List Line → Type 0
 HasBegun prefix = (version : Version) × (n start : ℕ) × (moves : List Move) × (due : Due)
     × IsTracePrefix version n start moves due prefix
@@ -65,7 +65,7 @@ Judges limit old new verdict =
 abbrev pub ReadsOn : ℕ → Option (List ℕ) → Option (List ℕ) → Type 0
 ReadsOn limit old new = (prefix : List Line) × (rest : List ℕ) × HasRead limit old new prefix rest × IsOpen prefix rest
 
--- no verdict was reached within the limit, and one more byte came
+-- no verdict was reached within the limit, and another byte came
 abbrev pub PassesLimit : ℕ → Option (List ℕ) → Option (List ℕ) → Type 0
 PassesLimit limit old new =
     (prefix : List Line) × (rest : List ℕ) × (byte : ℕ) × HasRead (limit + 1) old new prefix (rest ++ byte ∷ [])

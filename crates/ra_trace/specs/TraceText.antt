@@ -38,7 +38,7 @@ abbrev pub send_line : Message → List ℕ
 send_line message = codes "send" ++ message_fields message ++ codes "\n"
 
 -- a line as it is written; the first one says the version, how many nodes there are, the number with which each
--- resource begins, and in version 3 whether the sends are told
+-- resource begins, and in version 3 whether the trace has sends
 abbrev pub line_text : Line → List ℕ
 line_text (First version nodes start) =
     codes "trace" ++ field (version_word version) ++ field (decimal nodes) ++ field (decimal start)
@@ -107,7 +107,7 @@ sent_lines ThreeWithSends sends = map Sent sends
 abbrev pub move_lines : Version → Move → List Line
 move_lines version move = Stepped move.step ∷ sent_lines version move.sends ++ map Marked move.marks
 
--- all lines of a trace: the first, those of each move in order, and the last
+-- all lines of a trace: the first, the lines of each move in order, and the last
 abbrev pub trace_lines : Version → ℕ → ℕ → List Move → List Line
 trace_lines version n start moves = First version n start ∷ flat_map (move_lines version) moves ++ Last ∷ []
 
@@ -132,7 +132,7 @@ needs_third (Lose message) = false
 needs_third (Repeat message) = false
 needs_third (Forget node) = true
 
--- the version in which a run of these steps is written without what is sent: version 2 if it has them all, and
+-- the version in which a run of these steps is written without sends: version 2 if it has words for all of them, and
 -- otherwise 3
 abbrev pub plain_version : List Step → Version
 plain_version [] = Two

@@ -33,8 +33,8 @@ marks_due marks = record { sends = []; marks = marks }
 abbrev pub due_lines : Due → List Line
 due_lines due = map Sent due.sends ++ map Marked due.marks
 
--- the lines so far are those of these moves in this version, except for what of the last move is still due; the moves
--- are a run
+-- the lines so far are the lines of these moves in this version, without those of the last move that are still due; the
+-- moves are a run
 pub record IsTracePrefix (version : Version) (n start : ℕ) (moves : List Move) (due : Due)
     (lines : List Line) : Type 0 where
   pub count : IsNodeNumber n
@@ -100,7 +100,7 @@ HasNoLine prefix text =
     × IsTraceIn version n start moves (flat_map line_text prefix)
     × (prefix ≡ trace_lines version n start moves) × (text ≢ []))
 
--- with these messages still to be told, the line is not that of the next one
+-- while these messages have yet to be told, the line is not the next one's
 abbrev pub IsUnsent : List Message → Line → Type 0
 IsUnsent unsent (First version nodes start) = ⊥
 IsUnsent unsent (Stepped step) = unsent ≢ []

@@ -12,7 +12,7 @@ version_word Two = codes "2"
 version_word Three = codes "3"
 version_word ThreeWithSends = codes "3"
 
--- how the first line ends: in version 3 it says whether the sends are told
+-- how the first line ends: in version 3 it says whether the trace has sends
 abbrev pub first_end : Version → List ℕ
 first_end One = []
 first_end Two = []
@@ -51,7 +51,7 @@ has_cancels Two = false
 has_cancels Three = true
 has_cancels ThreeWithSends = true
 
--- whether the messages that a step sends are told
+-- whether the trace has the messages that a step sends
 abbrev pub has_sends : Version → Bool
 has_sends One = false
 has_sends Two = false

@@ -34,7 +34,7 @@ abbrev pub prefix_text : Version → ℕ → ℕ → List Move → List ℕ
 prefix_text version n start moves =
     line_text (First version n start) ++ flat_map line_text (flat_map (move_lines version) moves)
 
--- the world of these nodes has made these steps and no others, and the text is that of its moves in this version
+-- the world of these nodes has made these steps and no others, and the text is the trace of its moves in this version
 -- without the last line, unless memory ran out for some part of it
 pub record HasTraced (version : Version) (n start : ℕ) (steps : List Step) (world : WorldState)
     (text : Draft) : Type 0 where

@@ -25,7 +25,7 @@ use std::alloc::Global;
 #[derive(Drop)]
 pub struct Checker {
     version: Version,
-    /// It keeps no marks, since those of the last step are all that is looked at.
+    /// It keeps no marks, since only those of the last step are looked at.
     world: MarklessWorld,
     table: Table,
     /// The messages that the last step sends.
@@ -96,7 +96,7 @@ impl Checker {
     }
 
     /// Takes the next line, and answers what it is. It steps the world and the lock table itself, and believes neither
-    /// steps nor marks. After a wrong line, only what is due is promised of the checker, and without memory nothing.
+    /// steps nor marks. After a wrong line, only what is due is promised about the checker, and without memory nothing.
     /// The cost is that of one step of the world or of the lock table.
     ///
     /// # Errors
@@ -236,8 +236,8 @@ impl Checker {
         }
     }
 
-    /// Takes a mark's line. That a message is still to be told comes first, then what the lock table says of it. The
-    /// table grows only for a mark that is due.
+    /// Takes a mark's line. A message that has yet to be told comes first, then what the lock table says about the
+    /// mark. The table grows only for a mark that is due.
     ///
     /// # Errors
     ///

@@ -26,7 +26,7 @@ pub fn texts_tell_their_steps()
 {}
 
 /// No text is the trace of two runs, or of one run in two versions. It tells the version, the number of nodes, the
-/// number that each resource begins with, each step and what came of it.
+/// number that each resource begins with, each step, and what it sent and marked.
 pub fn traces_tell_their_runs()
     ensures { (version second : Version) (n m start other : ℕ) (moves others : List Move) (text : List ℕ)
         → IsTraceIn version n start moves text → IsTraceIn second m other others text

@@ -58,7 +58,7 @@ impl<R: Read> LineSource<R> for ByBytes {
         taken: &mut usize,
         left: usize,
     ) -> Result<(), TraceError> {
-        room.bytes.clear(); // Those of the line before may be there.
+        room.bytes.clear(); // The bytes of the line before may be left in it.
         next_line_by_bytes(reader, room, taken, left)
     }
 }

@@ -33,7 +33,7 @@ struct MarkLog {
 enum MarkJudgement {
     /// A mark that the lock table allows.
     Right,
-    /// There is none: the input is at its end.
+    /// No line is left: the input is at its end.
     End,
     /// It is wrong.
     Wrong(MarkCause),

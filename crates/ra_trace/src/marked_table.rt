@@ -1,5 +1,4 @@
-//! The lock table under the marks of a trace or of a log: whether it makes a mark, and the cause for which it refuses
-//! one.
+//! The lock table under the marks of a trace or of a log: whether it makes a mark, and the cause if it refuses one.
 ghost use Rattle.std.specs.Prelude.{◌≡◌, ◌↔◌, Ok, None, IsTrue};
 ghost use Rattle.ra_stamp.specs.declared.entry.Mark.{Mark};
 ghost use Rattle.ra_table.specs.Laws.{AllowsMark};
@@ -21,7 +20,7 @@ pub fn allows(table: &Table, mark: &Mark) -> bool
     }
 }
 
-/// Makes the step of a mark in a lock table, or returns the first cause for which the table refuses it, and leaves the
+/// Makes the step of a mark in a lock table, or returns the first cause that the table has to refuse it, and leaves the
 /// table unchanged. The cause is never `MarkCause::Line`. The cost is that of the table's `request`, `enter`, `leave`
 /// or `withdraw`.
 ///

@@ -23,7 +23,7 @@ use ra_world::{
 use std::alloc::Global;
 use std::io::Write;
 
-/// What the first line of a trace tells: the version, how many nodes the run has, and where their numbers begin.
+/// What the first line of a trace tells: the version, how many nodes the run has, and at what number they begin.
 #[derive(Clone, Copy)]
 struct FirstLine {
     version: Version,
@@ -147,7 +147,7 @@ fn trace_step(
     match world.step(alloc, step) {
         Ok(outcome) => {
             push_move(text, version, step, &outcome.sends, &outcome.marks);
-            // By a call, and before any exit, since to drop each of its parts there is long to prove.
+            // By a call, and before any exit: dropping each of its parts at an exit takes long to prove.
             drop(outcome);
             if text.refused {
                 Err(WriteTraceError::Memory)
@@ -179,7 +179,7 @@ fn trace_steps(
 ) -> Result<(), WriteTraceError>
     ensures traced { (n start : ℕ) → HasTraced version n start [] world.old text.old
         → Traces version n start steps.now.items steps.now.items world.new text.new result }
-    // Memory ran out at one of the steps, up to which they are a run.
+    // Memory ran out at one of the steps; up to it they are a run.
     ensures memory { (n start : ℕ) → HasTraced version n start [] world.old text.old
         → IsErrOf result WriteTraceError.Memory
         → (place : ℕ) × (place < length steps.now.items) × WorldRun n start (take (place + 1) steps.now.items) }
@@ -268,7 +268,7 @@ fn needs_third(step: &Step) -> bool
     }
 }
 
-/// Returns the version in which a run of these steps is written if what is sent is not told.
+/// Returns the version in which a run of these steps is written without sends.
 fn plain_version(steps: &Steps) -> Version
     ensures version { result ≡ spec.plain_version steps.now.items }
     ensures can_write { CanWrite result steps.now.items }
@@ -300,7 +300,7 @@ fn text_in(alloc: Global, first: FirstLine, steps: &Steps) -> Result<String, Wri
     };
     let mut text = Draft::new(alloc);
     let written = trace_run(alloc, &mut text, first, &mut world, steps);
-    // By a call, and before any exit, since to drop it at each is longer to prove.
+    // By a call, and before any exit: dropping it at each exit takes longer to prove.
     drop(world);
     match written {
         Ok(()) => match text.finish() {
@@ -311,9 +311,9 @@ fn text_in(alloc: Global, first: FirstLine, steps: &Steps) -> Result<String, Wri
     }
 }
 
-/// Makes a run of this many nodes, all of whose numbers begin at `start`, through a list of steps, and returns its
-/// trace without what is sent. It is of version 2, or of version 3 if a step is a cancel or to forget. The cost is that
-/// of the steps, each as `World::step` says, and linear in the text.
+/// Makes a run of this many nodes, with all numbers beginning at `start`, through a list of steps, and returns its
+/// trace without sends. It is of version 2, or of version 3 if a step is a cancel or a forget. The cost is that of the
+/// steps, each as `World::step` says, and linear in the text.
 ///
 /// # Errors
 ///
@@ -390,7 +390,7 @@ pub fn write_trace<W: Write>(
     steps: &Steps,
     writer: &mut W,
 ) -> Result<(), WriteTraceError>
-    // What is written is the trace of these steps and nothing else.
+    // Exactly the trace of these steps is written.
     ensures ok { OnOk result ((moves : List Move) × (text : List ℕ)
         × (map (λ move. move.step) moves ≡ steps.now.items) × IsTrace nodes start moves text
         × Appends (W.contents writer.old) (W.contents writer.new) text) }
@@ -421,7 +421,7 @@ pub fn write_trace_with_sends<W: Write>(
     steps: &Steps,
     writer: &mut W,
 ) -> Result<(), WriteTraceError>
-    // What is written is the trace of these steps and nothing else.
+    // Exactly the trace of these steps is written.
     ensures ok { OnOk result ((moves : List Move) × (text : List ℕ)
         × (map (λ move. move.step) moves ≡ steps.now.items) × IsTraceIn ThreeWithSends nodes start moves text
         × Appends (W.contents writer.old) (W.contents writer.new) text) }

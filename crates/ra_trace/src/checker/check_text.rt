@@ -166,7 +166,7 @@ fn verdict_after<R: Read, S: LineSource<R>>(
 /// shorter; after the last line of a trace, one byte is read. It keeps no more of the text than the present line. It
 /// reads at most `limit + 1` bytes, each by a read of its own, so a reader with a buffer is best; a byte past the limit
 /// is not looked at. No read that failed is tried again. The cost is linear in what is read, plus that of the steps and
-/// the marks, as `World::step` and `Table` say. To read a line takes no memory.
+/// the marks, as `World::step` and `Table` say. Reading a line takes no memory.
 ///
 /// # Errors
 ///

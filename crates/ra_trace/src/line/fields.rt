@@ -7,8 +7,8 @@ ghost use Rattle.ra_trace.specs.Forms as spec;
 
 use ra_stamp::{Mode, Name, NodeId};
 
-/// Returns what is before and after the first occurrence of a byte in a text, or `None` if there is none. It does not
-/// allocate.
+/// Returns what is before and after the first occurrence of a byte in a text, or `None` if it does not occur. It does
+/// not allocate.
 #[inline(always)]
 pub fn split_once(text: &[u8], byte: u8) -> Option<(&[u8], &[u8])>
     ensures { MatchOption result (spec.cut byte text.now ≡ None)

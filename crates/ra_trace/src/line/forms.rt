@@ -211,7 +211,7 @@ fn forget_of(text: &[u8]) -> Option<Line>
     Some(Line::Stepped(Step::Forget { node }))
 }
 
-/// What becomes of a message.
+/// What happens to a message.
 #[derive(Clone, Copy)]
 pub enum Fate {
     Delivered,
@@ -236,7 +236,7 @@ impl Fate {
     }
 }
 
-/// What becomes of a request.
+/// What happens to a request.
 #[derive(Clone, Copy)]
 pub enum Change {
     Requested,

@@ -48,7 +48,7 @@ impl Version {
         matches!(self, Version::Three | Version::ThreeWithSends)
     }
 
-    /// Returns whether the messages that a step sends are told. It does not allocate.
+    /// Returns whether the trace has the messages that a step sends. It does not allocate.
     pub fn has_sends(self) -> bool
         ensures { result ≡ spec.has_sends self }
     {

@@ -14,7 +14,7 @@ use std::io::Read;
 /// The bytes of a line, as far as they were read.
 pub type LineBytes = ArrayVec<u8, MAX_LINE>;
 
-/// With what the bytes of a line end.
+/// What ends the bytes of a line.
 #[derive(Clone, Copy)]
 pub enum LineEnd {
     /// Their last one is a line feed.

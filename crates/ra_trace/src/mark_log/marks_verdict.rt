@@ -8,7 +8,7 @@ pub enum MarkCause {
     Line,
     /// A request, and its node waits or holds on its name.
     NodeBusy,
-    /// A request, and its number is not above that of each entry granted so far on its name.
+    /// A request whose number is not above that of each entry granted so far on its name.
     NotAbove,
     /// A grant or a withdrawal of an entry that does not wait.
     NotWaiting,

@@ -7,7 +7,7 @@ use Rattle.ra_trace.specs.declared.line.version.Version.{Version}
 use Rattle.ra_trace.specs.TraceText.{IsTrace, IsTraceIn, plain_version}
 use Rattle.ra_trace.proofs.trace_writing.trace_text.Goals as goal
 
--- the version is the one in which the steps are written
+-- the version is the one that the steps are written in
 as_plain : {X : Type 0} (bytes : X → List ℕ) (version : Version) (n start : ℕ) (steps : List Step) (result : Result X WriteTraceError) → version ≡ plain_version steps
     → IfOk result (λ text. (moves : List Move) × (map (λ (move : Move). move.step) moves ≡ steps) × IsTraceIn version n start moves (bytes text))
     → IfOk result (λ text. (moves : List Move) × (map (λ (move : Move). move.step) moves ≡ steps) × IsTrace n start moves (bytes text))

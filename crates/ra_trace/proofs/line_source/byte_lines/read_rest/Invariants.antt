@@ -3,7 +3,7 @@ use Rattle.std.specs.Prelude.{All}
 use Rattle.std.specs.Io.KnownBytes.{Consumes}
 use Rattle.ra_trace.proofs.line_source.byte_lines.read_rest.Given as goal
 
--- so many bytes came, and none of them is a line feed
+-- this many bytes came, and none of them is a line feed
 abbrev pub invariant-loop-turn : goal.invariant-loop-turn
 invariant-loop-turn g l = record {
   count : l._turn ≡ length l.bytes.items;
