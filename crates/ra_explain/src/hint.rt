@@ -79,8 +79,8 @@ pub const AT_LATER: &[Hint] = &[
     ("send ", KINDS),
 ];
 
-/// Returns the text of the first hint of these lists whose prefix the line begins with, or `otherwise` if there is
-/// none.
+/// Returns the text of the first hint of these lists whose prefix the line begins with, or `otherwise` if it begins
+/// with none of them.
 pub fn hint_at<'a>(lists: &[&[Hint]], line: &[u8], otherwise: &'a str) -> &'a str {
     for hints in lists {
         for (prefix, text) in *hints {

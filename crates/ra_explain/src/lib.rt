@@ -1,4 +1,4 @@
-//! Explains to a person why an input was refused: where in it the cause is, and what would be right there. No clause
+//! Explains to a person why an input was refused: the place of the cause, and what would be right there. No clause
 //! covers the wording of an explanation.
 #![tactic(auto)]
 

@@ -16,7 +16,7 @@ pub fn part(digits: &[u8], place: usize, width: usize) -> &[u8] {
     }
 }
 
-/// Returns the number that these bytes of a frame are, as many as there are, or 0 if there is none.
+/// Returns the number that these bytes of a frame spell, up to the end of the digits, or 0 if no byte is left.
 pub fn number_at(digits: &[u8], place: usize, width: usize) -> u64 {
     let mut number: u64 = 0;
     for digit in part(digits, place, width) {

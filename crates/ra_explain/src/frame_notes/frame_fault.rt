@@ -1,4 +1,4 @@
-//! Where the fault of a frame is in its line of digits.
+//! The place of a frame's fault in its line of digits.
 use crate::frame_notes::digits::{no_name_byte, part};
 use crate::frame_notes::frame_field::{
     FAULTY, FrameField, NAME, NAME_BYTE, NAMES, field_at, range_at,
@@ -62,8 +62,8 @@ pub fn push_frame_fault(note: &mut Note, digits: &[u8], fault: FrameError) {
 }
 
 /// Returns a note on the fault of a frame. The input has the frame's hexadecimal digits in one line, with or without a
-/// line feed. The note says which field it is, where its bytes are, what they are, and what is allowed there. Returns
-/// `None` if there is nothing more to say.
+/// line feed. The note says which field is wrong, where its bytes are, what they are, and what is allowed there.
+/// Returns `None` if there is nothing more to say.
 ///
 /// # Errors
 ///

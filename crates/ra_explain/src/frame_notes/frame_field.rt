@@ -1,4 +1,4 @@
-//! The fields of a frame, where they are, and what they may contain.
+//! The fields of a frame, their places, and what they may contain.
 use crate::frame_notes::digits::number_at;
 use ra_frame::{Format, format_of};
 
@@ -55,13 +55,13 @@ const RANGES: [&str; 9] = [
 pub struct FrameField {
     /// Its index in the order of all, or the index of the name's bytes.
     pub index: usize,
-    /// Where it begins, in bytes counted from 0.
+    /// Its first byte, counted from 0.
     pub place: usize,
     /// How many bytes it has.
     pub width: usize,
 }
 
-/// Returns the field with this index in the frame of these digits. If they name no version, it is that of a frame of
+/// Returns the field with this index in the frame of these digits. If they name no version, the frame is taken to have
 /// the newest one. The name is as long as the byte before it says.
 pub fn field_at(digits: &[u8], index: usize) -> FrameField {
     let [version, ..] = number_at(digits, 0, 1).to_le_bytes();

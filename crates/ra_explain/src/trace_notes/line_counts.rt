@@ -78,7 +78,7 @@ impl LineCounts {
             (b'r', _, b'p') => self.repeats = self.repeats.saturating_add(1),
             (b'c', _, _) => self.cancels = self.cancels.saturating_add(1),
             (b'w', _, _) => self.withdrawals = self.withdrawals.saturating_add(1),
-            // That a client releases shows in its mark. What is sent, and that a node forgets, leaves nothing.
+            // A release shows in its mark. A send or a forget leaves nothing to count.
             _ => {}
         }
     }

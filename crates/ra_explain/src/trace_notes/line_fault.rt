@@ -34,8 +34,8 @@ fn push_wrong(note: &mut Note, field: Field, text: &[u8], version: Option<Versio
 }
 
 /// Adds which field of a line is wrong in this version and what it may contain, and returns whether one is. Adds
-/// nothing unless the words of the line are those of one of these kinds. If the version is not known, fields are
-/// checked as in version 2.
+/// nothing unless the words of the line make one of these kinds. If the version is not known, fields are checked as in
+/// version 2.
 pub fn push_line_fault(
     note: &mut Note,
     kinds: &[LineKind],

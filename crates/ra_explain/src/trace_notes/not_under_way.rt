@@ -9,7 +9,7 @@ use ra_stamp::Message;
 use ra_text::Note;
 use ra_trace::Version;
 
-/// What is said of a message for which there is no reason to be sent.
+/// What is said about a message that had no reason to be sent.
 const NEVER_SENT: &str = "it was never sent";
 
 /// Adds why a REPLY was never sent, although this request waits for it.
@@ -36,8 +36,8 @@ fn push_awaited(note: &mut Note, replay: &Replay, reply: &Message, answered: &Op
     }
 }
 
-/// Adds why a message is not under way that a line of a trace delivers, loses or repeats: in which line it was last
-/// delivered or lost, or that it was never sent. Of a REPLY to a request that waits or holds, it adds why it was never
+/// Adds why a message that a line of a trace delivers, loses or repeats is not under way: in which line it was last
+/// delivered or lost, or that it was never sent. For a REPLY to a request that waits or holds, it adds why it was never
 /// sent. If the line has no message, it adds `other`.
 pub fn push_not_under_way(note: &mut Note, line: &TextLine<'_>, replay: &Replay, other: &str) {
     let Some(message) = &replay.message else {

@@ -34,10 +34,10 @@ fn push_other(note: &mut Note, joint: &str, open: &OpenRequests, sought: &Sought
     request.is_some()
 }
 
-/// Adds what became of an entry that should wait or hold and does not: it already holds, still waits, was released or
-/// withdrawn, or was never requested. In place of that last, it names a request like it if there is one: on its name
-/// the one of its node that waits or holds, the first of its client that does, or the last one that its node released.
-/// If there is none, and the entry should hold, it adds who holds the name.
+/// Adds what happened to an entry that should wait or hold and does not: it already holds, still waits, was released or
+/// withdrawn, or was never requested. If it was never requested, it names a similar request on its name instead, if
+/// there is one: the one of its node that waits or holds, the first of its client that does, or the last one that its
+/// node released. If there is none, and the entry should hold, it adds which clients hold the name.
 fn push_fate(note: &mut Note, entry: &Entry, replay: &Replay, cause: MarkCause) {
     let open = &replay.open;
     if let Some(request) = open.request_of(entry) {

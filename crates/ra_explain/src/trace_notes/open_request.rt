@@ -35,7 +35,7 @@ impl Stage {
 #[derive(Clone, Copy)]
 pub struct Reached {
     pub stage: Stage,
-    /// The mode in which it asked.
+    /// The mode that it asked for.
     pub mode: Mode,
     /// The line since which it is at this stage, counted from 1.
     pub since: u64,

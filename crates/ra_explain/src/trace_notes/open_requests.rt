@@ -94,8 +94,7 @@ impl OpenRequests {
         }
     }
 
-    /// Takes the mark in the line with this number. That a client releases shows in its mark, and so does that its
-    /// request is withdrawn.
+    /// Takes the mark in the line with this number. A release and a withdrawal show in their marks.
     pub fn take_mark(&mut self, mark: &Mark, number: u64) {
         match mark {
             Mark::Requested(entry) => self.keep(entry, Stage::Waits, number),
@@ -134,8 +133,8 @@ impl OpenRequests {
         }
     }
 
-    /// Returns the first request after a line that is one of these, in the order of the lines since which they are
-    /// there. The cost is linear in how many wait, are queued and hold.
+    /// Returns the first of these requests after a line, in the order of the lines in which they began. The cost is
+    /// linear in how many wait, are queued and hold.
     pub fn next_of<'a>(&'a self, after: u64, sought: &Sought) -> Option<&'a OpenRequest> {
         let (mut found, mut first) = (None, u64::MAX);
         for (_, request) in self.clients.iter() {

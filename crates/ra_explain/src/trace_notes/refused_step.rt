@@ -59,8 +59,8 @@ pub fn push_waits_not(note: &mut Note, client: u32, name: &Name, node: Option<No
     }
 }
 
-/// Returns the node that the step in a line names, and which client tries what with which name, unless the node
-/// forgets. Returns `None` if the line has another step.
+/// Returns the node that the step in a line names, and which client tries what with which name, except for a forget.
+/// Returns `None` if the line has another step.
 fn tried_in(line: &[u8]) -> Option<(NodeId, Option<(u32, Name, Tried)>)> {
     match &Line::parse(line) {
         Some(
@@ -113,8 +113,8 @@ fn push_not_allowed(
     });
 }
 
-/// Adds why the step in a line of a trace is refused, in which a client asks for a name, leaves it or gives up, or a
-/// node forgets. If that is not known, since there was no memory for the requests before it, it adds `other`.
+/// Adds why the step in a line of a trace is refused: a client asks for a name, leaves it or gives up, or a node
+/// forgets. If that is not known, since there was no memory for the requests before it, it adds `other`.
 pub fn push_refused(note: &mut Note, line: &TextLine<'_>, replay: &Replay, other: &str) {
     let (Some((node, tried)), Some(nodes)) = (tried_in(line.bytes), replay.nodes) else {
         note.push(other);

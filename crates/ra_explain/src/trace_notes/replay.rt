@@ -20,7 +20,7 @@ pub struct Granted {
 /// What the lines before a wrong line of a trace say of the wrong line.
 #[derive(Drop)]
 pub struct Replay {
-    /// How many nodes there are, if the first line is that of a trace.
+    /// How many nodes there are, if the first line begins a trace.
     pub nodes: Option<u16>,
     /// The last line of a step, counted from 1, or 0.
     pub step_at: u64,
@@ -34,7 +34,7 @@ pub struct Replay {
     pub released_at: Option<u64>,
     /// The line in which it was withdrawn.
     pub withdrawn_at: Option<u64>,
-    /// The last entry that its node released on its name, and the line in which it did.
+    /// The last entry that its node released on its name, and the line of the release.
     pub released: Option<(Entry, u64)>,
     /// For each number of a node, whether a REPLY of that node to the request of the mark was delivered.
     replied: [bool; NUMBERS],

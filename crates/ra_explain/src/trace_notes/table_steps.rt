@@ -5,8 +5,8 @@ use ra_text::cut;
 use ra_trace::{Line, MarkCause, try_mark};
 use std::alloc::Global;
 
-/// Returns why a lock table refuses a mark after these lines of a trace, all of whose marks it takes. Returns `None` if
-/// it takes this one, too, or if memory runs out. The cost is that of the marks.
+/// Returns why a lock table refuses a mark after these lines of a trace. It takes all their marks. Returns `None` if it
+/// takes this one, too, or if memory runs out. The cost is that of the marks.
 pub fn refusal_after(alloc: Global, lines: &[u8], mark: &Mark) -> Option<MarkCause> {
     let mut table = Table::new(alloc).ok()?;
     let (mut rest, mut is_whole) = (lines, true);

@@ -53,8 +53,8 @@ fn push_clients(
     named
 }
 
-/// Adds how many things are left and what they do, after this text, if there are any. Returns the text after which more
-/// things are added.
+/// Adds how many things are left and what they do, after this text, if any are left. Returns the text that comes before
+/// further things.
 fn push_count<'a>(note: &mut Note, joint: &'a str, count: u64, thing: &str, does: &str) -> &'a str {
     if count == 0 {
         return joint;
@@ -102,11 +102,11 @@ fn push_end(alloc: Global, note: &mut Note, text: &[u8], left: &LeftOver) {
 
 /// Returns a note on what is left at the end of a text, which is a mark log, or a trace in which this many messages
 /// were sent. The note counts the messages that are under way and lost, and the requests that wait, are queued or hold,
-/// and leaves out each count that is zero. At each stage it names the first four clients and since which lines they are
-/// there, and which clients those wait for that wait or are queued. If there is no memory for the clients, it only
-/// counts. If a log has no mark, the note says so. At the end it names the first four requests that were withdrawn, and
-/// who went on because of that. Returns `None` if nothing is left and no request was withdrawn. The cost is linear in
-/// the text. It does not allocate if it returns `None`.
+/// and leaves out each count that is zero. At each stage it names the first four clients and the lines since which they
+/// have been at it, and the clients that hold up those that wait or are queued. If there is no memory for the clients,
+/// it only counts. If a log has no mark, the note says so. At the end it names the first four requests that were
+/// withdrawn, and the clients that went on because of that. Returns `None` if nothing is left and no request was
+/// withdrawn. The cost is linear in the text. It does not allocate if it returns `None`.
 ///
 /// # Errors
 ///
@@ -125,8 +125,8 @@ pub fn end_note(alloc: Global, text: &[u8], sent: u128) -> Result<Option<String>
             .saturating_add(counts.repeats)
             .saturating_sub(counts.losses.saturating_add(counts.deliveries)),
         lost: counts.losses,
-        // A client that asked is queued until its request is made, which waits until it is granted. By a cancel it is
-        // queued no more, or its request is withdrawn. In a mark log nobody asks.
+        // A client that asked is queued until its request is made, and the request waits until it is granted. A cancel
+        // ends the queueing, or withdraws the request. A mark log has no asks.
         waiting: counts
             .requests
             .saturating_sub(counts.enters.saturating_add(counts.withdrawals)),

@@ -12,7 +12,7 @@ use std::alloc::Global;
 /// The most clients that are named as going on because of one withdrawal.
 const MAX_GOING_ON: u64 = 3;
 
-/// Which withdrawals of a text a note names, and whether it says in which lines.
+/// Which withdrawals of a text a note names, and whether it gives their lines.
 #[derive(Clone, Copy)]
 pub struct WithdrawalScope {
     /// The first and the last line of the part whose withdrawals it names, counted from 1.
@@ -43,8 +43,8 @@ impl Withdrawal<'_> {
         }
     }
 
-    /// Returns the request that the same step makes, if it does: that of the next client in the queue of the node. In a
-    /// trace that is the next line. A mark log does not tell what belongs to a step.
+    /// Returns the request that the same step makes, if it makes one: the request of the next client in the queue of
+    /// the node. In a trace that is the next line. A mark log does not tell what belongs to a step.
     fn next_in_queue(&self) -> Option<Entry> {
         if self.step == 0 {
             return None;
@@ -156,9 +156,9 @@ impl WithdrawalScope {
         self.push_followers(note, open, withdrawal);
     }
 
-    /// Adds that this many requests were withdrawn, after this text. It names the first four clients, in which lines
-    /// they gave up, since which lines they had waited, and of each the first three that went on because of it. The
-    /// cost is linear in the text.
+    /// Adds that this many requests were withdrawn, after this text. It names the first four clients, the lines in
+    /// which they gave up, the lines since which they had waited, and for each the first three clients that went on
+    /// because of it. The cost is linear in the text.
     pub fn push(&self, alloc: Global, note: &mut Note, joint: &str, text: &[u8], count: u64) {
         let were = if count == 1 {
             " request was withdrawn"
@@ -200,9 +200,9 @@ impl WithdrawalScope {
     }
 }
 
-/// Returns a note on the requests that are withdrawn in a part of a text, which is a trace or a mark log, and on who
-/// went on because of that. Returns `None` if there are none. The cost is linear in the text. It does not allocate if
-/// it returns `None`.
+/// Returns a note on the requests that are withdrawn in a part of a text, which is a trace or a mark log, and on the
+/// clients that went on because of that. Returns `None` if none is withdrawn. The cost is linear in the text. It does
+/// not allocate if it returns `None`.
 ///
 /// # Errors
 ///
