@@ -1,4 +1,4 @@
--- Writers to which parts are added.
+-- Adding parts to writers.
 use Rattle.std.proofs.Common.{◌≡◌, ℕ, List, [], ◌++◌, sym, ap, ◌∙◌, append_assoc, append-nil}
 use Rattle.ra_draw.specs.declared.svg.svg_writer.SvgWriter.{SvgWriter}
 use Rattle.ra_draw.specs.Writing.{Adds}

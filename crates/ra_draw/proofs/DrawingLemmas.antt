@@ -1,4 +1,4 @@
--- How an attempt to draw comes to what `DrawsPart` says of it, for each way in which it ends.
+-- Why an attempt to draw does what `DrawsPart` says, for each way in which it ends.
 use Rattle.std.proofs.Common.{◌≡◌, ◌≢◌, ◌≤◌, ℕ, List, [], ◌∷◌, ◌++◌, Option, Some, None, Result, Ok, Err, length, length-append, refl, sym, ap, inl, inr, arith}
 use Rattle.std.specs.Io.KnownBytes.{Appends, Consumes}
 use Rattle.std.proofs.lemmas.List.{append-nil}
@@ -10,7 +10,7 @@ use Rattle.ra_text.specs.declared.drawn_part.Part.{Part}
 use Rattle.ra_draw.specs.Drawing.{DrawsPart, IsInput, IsOfPart, of_trace}
 use Rattle.ra_draw.specs.PictureSteps.{IsUnread, IsUnwritten}
 
--- a text that may be read is not too long for a check of it, of which this is what was taken
+-- a text that may be read is not too long for a check of it, which took this part
 pub too_long : (text body rest : List ℕ) (byte : ℕ) (new : Option (List ℕ)) → length text ≤ 16777216 → length (body ++ rest) ≡ 16777216
     → Consumes (Some text) new (body ++ (rest ++ byte ∷ [])) → ⊥
 too_long text body rest byte None few is from = from

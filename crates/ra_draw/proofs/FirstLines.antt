@@ -71,7 +71,7 @@ parsed bytes None line is none readable same = absurd (none refl line readable s
 parsed bytes (Some other) line is none readable same =
     ap Some (begins_once (bytes ++ codes "\n") other line [] [] (is.0, is.1 ∙ sym (append-nil (line_text other))) (readable, same ∙ sym (append-nil (line_text line)))).0
 
--- whether the first line is that of a trace
+-- whether the first line begins a trace
 first_tells : (line : Line) (others : List Line) → is_trace (line ∷ []) ≡ is_trace (line ∷ others)
 first_tells (First version nodes start) others = refl
 first_tells (Stepped step) others = refl

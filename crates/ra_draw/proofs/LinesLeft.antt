@@ -13,7 +13,8 @@ use Rattle.ra_draw.specs.Following.{Notes, NotesAll, numbers_of}
 use Rattle.ra_draw.specs.Pictures.{AreLines, is_in, nodes_with, row_at, rows_from}
 use Rattle.ra_draw.proofs.FirstLines.{first_line, no_line, parsed}
 
--- these lines are left after so many, and make this text; with what was noted of the others it is what all lines come to
+-- these lines are left after this many, and make this text; with what was noted about the others they come to what all
+-- lines come to
 pub record AreLeft (trace : Bool) (part : Part) (lines : List Line) (count : ℕ) (old now : Timeline) (left : List Line) (rest : List ℕ) : Type 0 where
   pub are : AreLines left rest
   pub rows : numbers_of now.rows.items ++ rows_from trace part (count + 1) left ≡ numbers_of old.rows.items ++ rows_from trace part 1 lines
@@ -79,7 +80,7 @@ module _ (trace : Bool) (part : Part) (lines : List Line) (old : Timeline) where
         nodes = sym (ap (λ m. fold (nodes_with trace) now.nodes (take m left)) zero_left) ∙ h.nodes;
       }
 
-  -- one more line is noted
+  -- another line is noted
   pub one_more : (count : ℕ) (now next : Timeline) (left : List Line) (rest bytes after : List ℕ) (found : Option Line) (drawn : Bool)
       → count < part.to → drawn ≡ is_in part (count + 1) → NoFeed bytes → rest ≡ bytes ++ 10 ∷ after
       → IfSome found (λ l. IsReadable l × (bytes ++ codes "\n" ≡ line_text l))

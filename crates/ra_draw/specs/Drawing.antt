@@ -75,8 +75,8 @@ pub record DrawsPart {V Why : Type 0} (IsVerdictOn : List ℕ → V → Type 0) 
     (Shows : Part → List ℕ → Option (List ℕ) → Option (List ℕ) → V → Type 0) (part : Part)
     (old new before after : Option (List ℕ))
     (Untouched : Type 0) (kept : List ℕ) (result : Result V DrawError) : Type 0 where
-  -- the verdict is that of the whole input; a picture is written exactly if the input is of the kind, and nothing else
-  -- is
+  -- the verdict is the verdict on the whole input; a picture is written exactly if the input is of the kind, and
+  -- nothing else is written
   pub ok : IfOk result (λ verdict. (input : List ℕ) × IsInput old new input × IsVerdictOn input verdict
       × Shows part input before after verdict)
   pub invalid : (line : ℕ) (why : Why) → result ≡ Ok (invalid_of line why) → Untouched

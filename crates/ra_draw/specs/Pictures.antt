@@ -1,5 +1,5 @@
 -- What a picture of a part of a text says: which of its lines have a row on the page, and their numbers. The text is a
--- trace or a mark log. Its lines are those of which it is made, and they are counted from 1.
+-- trace or a mark log. Its lines are counted from 1.
 use Rattle.std.specs.Prelude.{◌≡◌, ℕ, ◌+◌, ◌-◌, ◌*◌, ◌/◌, max, Bool, true, false, not, ◌&&◌, nat_le, if◌then◌else◌, List, [], ◌∷◌, ◌++◌, codes, decimal, flat_map, fold, take}
 use Rattle.std.specs.List.{AllByRecursion}
 use Rattle.ra_stamp.specs.Mark.{entry_of_mark}
@@ -18,7 +18,7 @@ pub record AreLines (lines : List Line) (text : List ℕ) : Type 0 where
 abbrev pub HasLines : List ℕ → Type 0
 HasLines text = (lines : List Line) × AreLines lines text
 
--- whether these are the lines of a trace, by the first one; the others are those of a mark log
+-- whether these are the lines of a trace, as the first one tells; otherwise they are a mark log's
 abbrev pub is_trace : List Line → Bool
 is_trace [] = false
 is_trace (First version nodes start ∷ lines) = true
@@ -62,15 +62,15 @@ nodes_with trace nodes (Sent message) = nodes
 nodes_with trace nodes (Marked mark) = if trace then nodes else max nodes (entry_of_mark mark).stamp.node
 nodes_with trace nodes Last = nodes
 
--- how many nodes are drawn: those of a trace, or those of a log up to the highest one that is named in or before the
--- part, at least one
+-- how many nodes are drawn: all nodes of a trace, or the nodes of a log up to the highest one that is named in or
+-- before the part, at least one
 abbrev pub nodes_of : Part → List Line → ℕ
 nodes_of part lines = fold (nodes_with (is_trace lines)) 1 (take part.to lines)
 
 -- ---- The text
 
 -- how far down the page a row is, the first one being 1: a row has 24 pixels if there are up to 12 nodes, and otherwise
--- 14; after each 40 rows there are 30 more, in which the nodes are named again
+-- 14; after each 40 rows there are 30 more, which name the nodes again
 abbrev pub row_y : (nodes row : ℕ) → ℕ
 row_y nodes row = row * (if nat_le nodes 12 then 24 else 14) + (row - 1) / 40 * 30 + 186
 

@@ -27,8 +27,8 @@ fn line_count(text: &[u8]) -> u64
     lines
 }
 
-/// Reads all of a text before it is judged: so `Read` and `Limit` come first, and the lines of the part are there once
-/// it is known.
+/// Reads all of a text before it is judged: so `Read` and `Limit` come first, and the lines of the part are complete
+/// once the part is known.
 ///
 /// # Errors
 ///

@@ -5,7 +5,7 @@ use ra_trace::TraceError;
 use std::fmt;
 use thiserror::Error;
 
-/// Why no picture was drawn, in the order in which the causes are looked for.
+/// Why no picture was drawn. The causes are looked for in this order.
 #[derive(Clone, Copy, Debug, PartialEq, Eq, Error)]
 pub enum DrawError {
     /// The reader failed.

@@ -1,5 +1,5 @@
-//! Where everything is on the page. Lengths are in pixels, and none comes near its greatest: so they are added without
-//! a refusal.
+//! The places of everything on the page. Lengths are in pixels, and none comes near its maximum: so they are added
+//! without a refusal.
 mod name_cut;
 mod node_lane;
 pub mod sizes;
@@ -28,7 +28,7 @@ pub struct Point {
     pub y: u64,
 }
 
-/// A lock span, and where its bar is.
+/// A lock span, and the place of its bar.
 #[derive(Clone, Copy)]
 pub struct LockBar {
     pub span: LockSpan,
@@ -52,7 +52,7 @@ pub struct Layout {
     label: u64,
     /// Whether a message comes from the lane of copies.
     pub has_copies: bool,
-    /// How far to the right that lane is: after that of the last node, and a label.
+    /// How far to the right that lane is: after the last node's lane and a label.
     pub copies_x: u64,
     /// The width of the page.
     pub width: u64,

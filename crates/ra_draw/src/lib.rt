@@ -1,7 +1,7 @@
 //! Pictures of runs: a space-time diagram of a trace, or the bars of a mark log, as one SVG file.
 //!
 //! `draw_trace` and `draw_log` judge a text that `draw_text` reads. What happens in it is a `timeline`, the `layout`
-//! says where that is on the page, and `svg` writes it.
+//! says where each part is on the page, and `svg` writes it.
 #![tactic(auto)]
 
 mod draw_log;

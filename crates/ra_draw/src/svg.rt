@@ -31,7 +31,7 @@ use svg_writer::SvgWriter;
 #[derive(Clone, Copy)]
 pub struct Totals {
     pub requests: u128,
-    /// What else is counted: messages of a trace, or grants of a mark log.
+    /// What is counted besides: messages of a trace, or grants of a mark log.
     pub counted: &'static str,
     pub count: u128,
 }

@@ -38,7 +38,8 @@ pub struct Row {
 /// What is drawn of a run, as far as it was followed.
 #[derive(Drop)]
 pub struct Timeline {
-    /// The nodes of a trace, or those of a log up to the highest one that it names in or before the part, at least one.
+    /// The number of nodes: all nodes of a trace, or the nodes of a log up to the highest one that it names in or
+    /// before the part, at least one.
     pub nodes: u16,
     /// The moment of the last step, or of the last mark of a log.
     moment: Moment,
@@ -94,8 +95,8 @@ impl Timeline {
         }
     }
 
-    /// Begins the line of a step or of a mark of a log, with a row if it is in the part. The lock span of a client that
-    /// asks begins, and that of one that leaves or gives up ends.
+    /// Begins the line of a step or of a mark of a log, with a row if it is in the part. An ask begins a lock span, and
+    /// a leave or a cancel ends one.
     fn begin(&mut self, line: u64, act: Option<Act>, is_drawn: bool) -> Result<(), Memory>
         ensures rows { OnOk result (numbers_of self.new.rows.items
             ≡ numbers_of self.old.rows.items ++ (if is_drawn then line ∷ [] else [])) }
@@ -133,7 +134,7 @@ impl Timeline {
             && let Message::Request { .. } = request
             && sends.is_empty()
         {
-            // The path that was added last is that of this request, if the step is drawn.
+            // The path that was added last belongs to this request, if the step is drawn.
             if self.moment.row > 0
                 && let Some(path) = self.paths.drawn.last_mut()
             {

@@ -7,7 +7,7 @@ use std::alloc::Global;
 #[derive(Clone, Copy)]
 pub struct Column {
     pub client: u32,
-    /// The row down to which there are bars.
+    /// The lowest row with bars.
     end: u32,
     /// The next column of this client, if it has more.
     next: Option<u32>,
@@ -37,8 +37,8 @@ impl NodeLane {
         }
     }
 
-    /// Takes a column for a bar of this client over these rows, and returns which: its first one that is free, and
-    /// otherwise one more, after its last one if it has any.
+    /// Takes a column for a bar of this client over these rows, and returns which: its first free one, or a new one
+    /// after its last one if it has any.
     pub fn take(&mut self, client: u32, first: u32, last: u32) -> Result<u32, Memory> {
         let new = short(self.columns.len());
         let mut place = match self.firsts.get(&client) {

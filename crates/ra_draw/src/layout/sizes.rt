@@ -24,7 +24,7 @@ pub const RIGHT_MARGIN: u64 = 24;
 /// The height below the row after the last one.
 pub const BOTTOM_MARGIN: u64 = 24;
 
-/// The least width of a page, which is that of the legend.
+/// The least width of a page: the legend's.
 pub const LEGEND_WIDTH: u64 = 860;
 
 /// The most nodes whose lanes are wide enough for labels.

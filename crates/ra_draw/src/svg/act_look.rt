@@ -9,7 +9,7 @@ pub struct ActLook {
     pub key: LockKey,
     /// What the client does, before the name.
     pub what: &'static str,
-    /// The mode in which it asks, after the name.
+    /// The mode that it asks for, after the name.
     pub mode_text: &'static str,
     /// What the label says before the name, and after it.
     pub verb: &'static str,
@@ -21,7 +21,7 @@ pub struct ActLook {
 }
 
 impl ActLook {
-    /// Returns that of a client that asks.
+    /// Returns the look of an ask.
     pub fn of_ask(key: &LockKey, mode: Mode) -> ActLook {
         ActLook {
             key: *key,
@@ -35,7 +35,7 @@ impl ActLook {
         }
     }
 
-    /// Returns that of a client that leaves.
+    /// Returns the look of a leave.
     pub fn of_leave(key: &LockKey) -> ActLook {
         ActLook {
             key: *key,
@@ -49,7 +49,7 @@ impl ActLook {
         }
     }
 
-    /// Returns that of a client that gives up.
+    /// Returns the look of a cancel.
     pub fn of_cancel(key: &LockKey) -> ActLook {
         ActLook {
             key: *key,

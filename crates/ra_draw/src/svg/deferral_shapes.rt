@@ -6,7 +6,7 @@ use crate::svg::svg_writer::PatternValue::{Node, Number, Text, Whole};
 use crate::timeline::{Deferral, Moment};
 
 impl Layers {
-    /// Begins the shape of a deferral: what it is, and from which line to which one, or that it goes on.
+    /// Begins the shape of a deferral: what it is, and its first and last lines, or that it goes on.
     fn begin_deferral(&mut self, deferral: &Deferral) {
         let request = &deferral.request;
         let name = request.name();
@@ -28,7 +28,7 @@ impl Layers {
     }
 
     /// Draws the line of a deferral, this far to the left of the lane, from where the REQUEST came to where the REPLY
-    /// is sent, and says what it is. Beneath it is one that is not seen, so that a pointer hits it easily.
+    /// is sent, and says what it is. Beneath it is a wide one that is not seen, so that a pointer hits it easily.
     fn draw_deferral(&mut self, layout: &Layout, deferral: &Deferral, beside: u64) {
         self.begin_deferral(deferral);
         let came = deferral.came.row;
@@ -63,7 +63,7 @@ impl Layers {
         self.shapes.put(b"</g>\n");
     }
 
-    /// Draws the deferrals. The next one of four places beside the lane is that of each.
+    /// Draws the deferrals. Each takes the next one of four places beside the lane.
     pub fn draw_deferrals(&mut self, layout: &Layout, deferrals: &[Deferral]) {
         let mut beside = NEAREST_DEFERRAL;
         for deferral in deferrals {

@@ -70,8 +70,8 @@ impl Layers {
         }
     }
 
-    /// Draws a dot where a client asks for a name in a mode, leaves it or gives it up, and labels it. The last one is
-    /// crossed.
+    /// Draws a dot at the place at which a client asks for a name in a mode, leaves it or gives it up, and labels it.
+    /// The dot of a client that gives up is crossed.
     fn draw_client_act(&mut self, place: Point, act: &ActLook, cut: NameCut) {
         let key = &act.key;
         // First comes a larger dot that is not seen, so that a pointer hits it easily.
@@ -115,7 +115,7 @@ impl Layers {
         );
     }
 
-    /// Draws a short dash where a node forgets names, and labels it.
+    /// Draws a short dash at the place at which a node forgets names, and labels it.
     fn draw_forgetting(&mut self, node: NodeId, place: Point) {
         self.shapes.write(
             "<g><title>node $ forgets names</title><circle cx=\"$\" cy=\"$\" r=\"10\" class=\"touch\"/><path class=\"cross\" d=\"M$ $m-6 0h12\"/></g>\n",
@@ -155,7 +155,7 @@ impl Layers {
         }
     }
 
-    /// Draws what a client or a node does on each row, and says where the rows of messages under way at the end begin.
+    /// Draws what a client or a node does on each row, and marks the first row of messages under way at the end.
     fn draw_rows(&mut self, layout: &Layout, timeline: &Timeline) {
         let mut number = 0;
         for row in &timeline.rows {
@@ -173,7 +173,7 @@ impl Layers {
         }
     }
 
-    /// Draws all that there is on the page: first the lanes, and after those of the nodes that from which copies come.
+    /// Draws all of the page: first the lanes, and after the nodes' lanes the one that copies come from.
     pub fn draw(&mut self, layout: &Layout, timeline: &Timeline) {
         let mut number = 0;
         for lane in &layout.lanes {

@@ -38,9 +38,8 @@ impl Layers {
         );
     }
 
-    /// Labels a message beside the lane of the node to which it goes, on the side from which it does not come, if there
-    /// is room on this page. Of equal messages that are under way the first one has a label, if it has a row of its
-    /// own.
+    /// Labels a message beside the lane of its receiver, on the side that it does not come from, if this page has room.
+    /// The first of equal messages that are under way has a label, if it has a row of its own.
     fn label_head(
         &mut self,
         layout: &Layout,
@@ -101,7 +100,7 @@ impl Layers {
         self.shapes.write(start, &[Number(path.start.line)]);
     }
 
-    /// Draws the loop from which a copy comes, and labels it if there is room on this page.
+    /// Draws the loop that a copy comes from, and labels it if this page has room.
     fn draw_copy(&mut self, layout: &Layout, path: &MessagePath, place: Point) {
         let message = &path.message;
         self.begin_message(path);
@@ -121,8 +120,8 @@ impl Layers {
     }
 
     /// Ends the title of a message, and draws its line, and beneath it a wide one that is not seen, so that a pointer
-    /// hits it easily. One that is not delivered ends before the lane, on the side from which it comes, with a cross if
-    /// it is lost.
+    /// hits it easily. A message that is not delivered ends before the lane, on the side that it comes from, with a
+    /// cross if it is lost.
     fn draw_line(&mut self, path: &MessagePath, from: Point, to: Point, gutter: u64) {
         let before = if from.x < to.x {
             to.x.saturating_sub(gutter.saturating_add(10))
@@ -155,7 +154,7 @@ impl Layers {
         self.shapes.put(b"</g>\n");
     }
 
-    /// Draws a message, from where it came under way to what became of it.
+    /// Draws a message, from where it came under way to its end.
     pub fn draw_path(&mut self, layout: &Layout, path: &MessagePath) {
         let mut from = layout.at(path.message.from(), path.start.row);
         if path.copied {

@@ -21,8 +21,8 @@ pub enum PatternValue<'a> {
 /// A text that is written from its start to its end. If memory runs out nothing more is written, and `finish` says so:
 /// so what is written with it gives no error of its own.
 ///
-/// No text that is written has a letter that XML reads otherwise: words are those of this crate, names have letters,
-/// digits, `_`, `-` and `.`, and everything else is a number.
+/// No text that is written has a letter with a meaning of its own in XML: words are those of this crate, names have
+/// letters, digits, `_`, `-` and `.`, and everything else is a number.
 #[derive(Drop)]
 pub struct SvgWriter {
     text: Vec<u8>,
@@ -86,7 +86,7 @@ impl SvgWriter {
         }
     }
 
-    /// Adds a pattern, in which these values take the places of `$`. One that has no place is left out.
+    /// Adds a pattern, with these values in the places of `$`. A value without a place is left out.
     pub fn write(&mut self, pattern: &str, values: &[PatternValue]) {
         let mut rest = pattern.as_bytes();
         for value in values {

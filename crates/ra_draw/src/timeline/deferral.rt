@@ -1,4 +1,4 @@
-//! Which REQUESTs are deferred, and the REPLYs that become of them.
+//! Which REQUESTs are deferred, and the REPLYs that answer them.
 use crate::timeline::Moment;
 use indexmap::IndexMap;
 use ra_stamp::{Memory, Message, Name, NodeId};

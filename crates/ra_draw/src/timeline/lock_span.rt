@@ -62,8 +62,8 @@ impl LockSpans {
         }
     }
 
-    /// Notes what becomes of a client that asked: its request gets a number, or it is granted the name. What else marks
-    /// say is noted as their steps come.
+    /// Notes what happens to a client that asked: its request gets a number, or it is granted the name. Everything else
+    /// in marks is noted as their steps come.
     pub fn take(&mut self, mark: &Mark, now: Moment) {
         let entry = mark.entry();
         let key = (entry.stamp.node, entry.client, entry.name);

@@ -4,7 +4,7 @@ use indexmap::IndexMap;
 use ra_stamp::{Memory, Message};
 use std::alloc::Global;
 
-/// What became of a message.
+/// What happened to a message.
 #[derive(Clone, Copy)]
 pub enum MessageEnd {
     Delivered(Moment),

@@ -1,6 +1,6 @@
 //! When something happens in a run.
 
-/// A moment of a run: the line of its step in the trace, and the row of the page on which that is, or 0 before the part
+/// A moment of a run: the line of its step in the trace, and the row of that line on the page, or 0 before the part
 /// that is drawn.
 #[derive(Clone, Copy)]
 pub struct Moment {

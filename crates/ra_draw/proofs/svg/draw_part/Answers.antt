@@ -6,7 +6,7 @@ use Rattle.ra_draw.specs.Pictures.{is_trace, nodes_of, nodes_with, rows_group, r
 use Rattle.ra_draw.proofs.Additions.{adds_as}
 use Rattle.ra_draw.proofs.svg.draw_part.Goals as goal
 
--- the rows and the nodes are those of the part
+-- the rows and the nodes are the part's
 pub returns-in-Ok : goal.returns-in-Ok
 returns-in-Ok c = λ lines are.
     let noted = c.in-Ok.ensures lines are in

@@ -5,7 +5,7 @@ use Rattle.ra_draw.specs.Pictures.{AreLines}
 use Rattle.ra_draw.proofs.LinesLeft.{AreLeft}
 use Rattle.ra_draw.proofs.timeline.Timeline.take_lines.Given as goal
 
--- what was noted of the lines so far, and what is left to note, are those of all lines
+-- what was noted about the lines so far, with what is left to note, is what all lines come to
 abbrev pub invariant-loop-before : goal.invariant-loop-before
 invariant-loop-before l = record {
   world : is_some l.world ≡ is_some l.fn.world;
