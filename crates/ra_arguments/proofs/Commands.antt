@@ -14,7 +14,7 @@ use Rattle.ra_arguments.specs.declared.command_line.option_rows.OptionRow.{Optio
 use Rattle.ra_arguments.specs.Application.{HasWords, WordList, command, ending_words, policy_words, program_with}
 use Rattle.ra_arguments.specs.OptionTable.{AreCommandsOf, AreOfCommand, IsOfRow, Label, all_labels, label_of_row, program_of, rule_of_row}
 
--- one more command
+-- another command
 pub one_more : (labels : List Label) (kind : CommandKind) (name : Text) (commands : List Shape) (options : List Rule) → AreCommandsOf labels commands → AreOfCommand kind options
     → AreCommandsOf (labels ++ (kind, name) ∷ []) (commands ++ command name options ∷ [])
 one_more [] kind name commands options none are = (options, are, [], ap (λ (c : List Shape). c ++ command name options ∷ []) none, refl)
@@ -40,7 +40,7 @@ not_global made name options is =
     let plain : (app_of made).top.is_plain ≡ true = ap (λ (a : App). a.top.is_plain) is in
     is_false (fields_of made).has_globals (both _ _ (both _ _ (both _ _ plain).1).1).0
 
--- a command with one more option
+-- a command with another option
 pub one_option : (name : Text) (rows : List OptionRow) (i : ℕ) (d : OptionRow) (old new : App) (rule : Rule) → i < length rows
     → old ≡ record { top = command name (map rule_of_row (take i rows)); subs = [] } → rule ≡ rule_of_row (slice_index_or rows i d) → new ≡ with_rule old rule
     → new ≡ record { top = command name (map rule_of_row (take (i + 1) rows)); subs = [] }
@@ -54,7 +54,7 @@ pub all_options : (name : Text) (kind : CommandKind) (rows : List OptionRow) (i 
 all_options name kind rows i made less is are =
     (map rule_of_row rows, are, is ∙ ap (λ (list : List OptionRow). record { top = command name (map rule_of_row list); subs = [] }) (take_all i rows less))
 
--- the program with one more command
+-- the program with another command
 pub one_row : (rows : List CommandRow) (i : ℕ) (d : CommandRow) (old sub new : App) → i < length rows
     → (commands : List Shape) × AreCommandsOf (map label_of_row (take i rows)) commands × (old ≡ program_of commands) → IsOfRow (slice_index_or rows i d) sub
     → new ≡ with_subcommand old sub.top

@@ -1,4 +1,4 @@
--- Where two dots are in a text.
+-- The place of two dots in a text.
 use Rattle.std.proofs.Common.{◌≡◌, ◌∙◌, ◌==◌, ◌&&◌, ◌<◌, ◌≤◌, ℕ, zero, suc, Bool, true, false, [], ◌∷◌, ◌++◌, Some, None, length, take, drop, refl, sym, ap, ap₂, arith}
 use Rattle.std.proofs.lemmas.Bool.{eqb-true}
 use Rattle.std.proofs.lemmas.List.{drop_all}
@@ -24,7 +24,7 @@ no_dots a b rest lacks = go (a == 46) refl (b == 46) refl
 nothing : (i : ℕ) (behind : Text) → drop i [] ≡ dots ++ behind → ⊥
 nothing i behind split = let count = ap length (sym (drop_all i [] (omega arith)) ∙ split) in omega (arith, count)
 
--- they are found where they are
+-- they are found at their place
 pub cut_there : (text : Text) (i : ℕ) (behind : Text) → ((k : ℕ) → k < i → LacksTextAt dots text k) → drop i text ≡ dots ++ behind
     → cut_at_dots text ≡ Some (take i text, behind)
 cut_there [] i behind lacks split = absurd (nothing i behind split)
@@ -40,7 +40,7 @@ cut_there (a ∷ b ∷ rest) (suc i) behind lacks split =
     let after = cut_there (b ∷ rest) i behind (λ k less. lacks (suc k) (omega (arith, less))) split in
     rw (here, after) refl
 
--- and not where they are not
+-- and at no other place
 pub cut_nowhere : (text : Text) → ((k : ℕ) → k ≤ length text → LacksTextAt dots text k) → cut_at_dots text ≡ None
 cut_nowhere [] lacks = refl
 cut_nowhere (a ∷ []) lacks = refl

@@ -10,7 +10,7 @@ bytes_at [] k argument less is = absurd (omega arith)
 bytes_at (x ∷ xs) zero argument less is = (omega arith, ap string_bytes is)
 bytes_at (x ∷ xs) (suc k) argument less is = let rest = bytes_at xs k argument (omega arith) is in (omega (arith, rest.0), rest.1)
 
--- the argument of which these are the bytes
+-- the argument with these bytes
 argument_at : (arguments : List (String Global)) (k : ℕ) (bytes : List ℕ) → k < length (map string_bytes arguments)
     → slice_index_or (map string_bytes arguments) k bytes ≡ bytes
     → (argument : String Global) × (k < length arguments) × (slice_index_or arguments k argument ≡ argument) × (string_bytes argument ≡ bytes)

@@ -1,4 +1,4 @@
--- Where the words lie that an option takes makes no difference to what the parser makes of arguments.
+-- The place in memory of the words that an option takes makes no difference to how the parser reads arguments.
 use Rattle.std.proofs.Common.{◌≡◌, ◌∙◌, ◌+◌, ◌==◌, ◌&&◌, ◌||◌, ℕ, Bool, true, false, not, zero, suc, List, [], ◌∷◌, map, Option, Some, None, is_some, option_map, length, drop, min, refl, ap, ap₂, Bor}
 use Rattle.std.specs.Prelude.{if◌then◌else◌, find, fold, encode_utf8, slice_get}
 use Rattle.std.specs.List.{list_any}

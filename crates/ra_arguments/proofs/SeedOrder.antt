@@ -39,7 +39,7 @@ IsOrdered (Ok (cluster printed)) = ⊤
 IsOrdered (Ok (check kind)) = ⊤
 IsOrdered (Ok (draw kind part)) = ⊤
 
--- what follows from each value, and holds of each cause, holds of what comes of a value or a cause
+-- what follows from each value, and holds of each cause, holds of the outcome of a value or a cause
 follows : {X Y : Type 0} (P : Meant Y → Type 0) (f : X → Meant Y) (o : Meant X) → ((why : UsageCause) → P (Err why)) → ((x : X) → P (f x)) → P (with_value f o)
 follows P f (Err why) none all = none why
 follows P f (Ok x) none all = all x

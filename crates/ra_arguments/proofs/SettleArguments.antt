@@ -50,7 +50,7 @@ one_task true false Trace Trace same = absurd (omega (arith, same))
 tail_of : {X : Type 0} {x y : X} {xs ys : List X} → x ∷ xs ≡ y ∷ ys → xs ≡ ys
 tail_of e = cc
 
--- ---- They are those of no other command
+-- ---- They belong to no other command
 
 second : (arguments : List (List ℕ)) → AreSettleArguments arguments → slice_get arguments 1 ≡ Some (codes "settle")
 second arguments (asked, asks) = ap (λ (ws : List (List ℕ)). slice_get ws 1) asks.2

@@ -52,7 +52,7 @@ WordList = Bor (List (Bor Text))
 abbrev pub HasWords : WordList → List Text → Type 0
 HasWords words texts = map (λ word. word.now) words.now ≡ texts
 
--- a list of these words; where they lie in memory does not matter to the parser
+-- a list of these words; their places in memory do not matter to the parser
 abbrev pub word_list : List Text → WordList
 word_list texts = record { ref_ptr = (0, 0); now = map (λ text. record { ref_ptr = (0, 0); now = text }) texts }
 

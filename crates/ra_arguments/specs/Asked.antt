@@ -71,7 +71,7 @@ abbrev pub IsTaskFor : Meant Meaning → AskedTask → Type 0
 IsTaskFor (Ok meaning) asked = Some meaning ≡ meaning_as asked
 IsTaskFor (Err why) asked = ⊥
 
--- the task is what a command means, and there is none only if it means nothing, for this cause
+-- the task is what a command means; it is missing only if the command means nothing, for this cause
 abbrev pub IsTaken : Meant Meaning → Result AskedTask UsageCause → Type 0
 IsTaken meaning found = MatchResult found (IsTaskFor meaning) (λ why. meaning ≡ Err why)
 
@@ -88,7 +88,7 @@ AsksForNothing arguments = ((refusals arguments ≡ []) × (why : UsageCause) ×
     ⊎ ((refusals arguments ≡ [] → ⊥) × (Any IsHelpArgument arguments → ⊥))
 
 -- Why they ask for nothing: the parser refuses them with an error of one of the kinds, unless that is a text of help
--- for which an argument asks; or it takes them, and this is the first cause for which they mean nothing.
+-- that an argument asks for; or it takes them, and this is the first cause why they mean nothing.
 abbrev pub IsUsageFault : (arguments : List Text) → UsageFault → Type 0
 IsUsageFault arguments (usage.Parser error) = IsAmong (kind_of error) (refusals arguments)
     × (is_help (kind_of error) ≡ true → Any IsHelpArgument arguments → ⊥)
@@ -136,9 +136,9 @@ AreSameCommand (Task a) (Task b) = meaning_as a ≡ meaning_as b
 AreSameCommand (Unknown Usage) (Unknown Usage) = ⊤
 AreSameCommand a b = ⊥
 
--- ---- the command, and why there is none
+-- ---- the command, or why it is missing
 
--- the cause that is kept with a command is why nothing is asked for, if that is so, and otherwise there is none
+-- the cause that is kept with a command tells why nothing is asked for; if something is asked for, none is kept
 abbrev pub IsCauseWith : (arguments : List Text) → Command → Option UsageFault → Type 0
 IsCauseWith arguments (Unknown Usage) None = ⊥
 IsCauseWith arguments (Unknown Usage) (Some why) = IsUsageFault arguments why

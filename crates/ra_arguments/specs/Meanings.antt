@@ -36,7 +36,7 @@ pub data Meaning : Type 0 where
   check : InputKind → Meaning
   draw : InputKind → Part → Meaning
 
--- a meaning, or why there is none
+-- a meaning, or the cause why it is missing
 abbrev pub Meant : Type 0 → Type 0
 Meant A = Result A UsageCause
 
@@ -163,9 +163,9 @@ chance_of (Seeded seed) = Some None
 chance_of (Faulty seed faults) = Some (Some faults)
 chance_of Listed = None
 
--- What is looked for among runs, if an end is given. Of the run that is found, the trace is printed unless choices are
--- asked for. The state of a run can't be printed, a finished run can't be shrunk, and without an end nothing of one run
--- can be printed.
+-- What is looked for among runs, if an end is given. The trace of the run that is found is printed, unless choices are
+-- asked for. The state of a run can't be printed, a finished run can't be shrunk, and without an end nothing about a
+-- single run can be printed.
 abbrev pub search_by : Option Ending → OutputKind → Meant (Option Search)
 search_by None prints.Lines = Ok None
 search_by None prints.Trace = Err cause.OneRun

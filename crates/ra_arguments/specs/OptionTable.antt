@@ -54,6 +54,6 @@ AreCommandsOf [] commands = commands ≡ []
 AreCommandsOf ((kind, name) ∷ labels) commands = (options : List Rule) × AreOfCommand kind options × (rest : List Shape)
     × (commands ≡ command name options ∷ rest) × AreCommandsOf labels rest
 
--- the program, to which these commands were added
+-- the program with these commands added
 abbrev pub program_of : List Shape → App
 program_of commands = record { top = record program { is_leaf = is_empty commands }; subs = commands }

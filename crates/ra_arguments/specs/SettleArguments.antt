@@ -4,7 +4,7 @@ use Rattle.ra_arguments.specs.declared.settle_arguments.SettleOutput.{SettleOutp
 use Rattle.ra_arguments.specs.declared.settle_arguments.SettleOutput.TheVariants.{Lines, Trace}
 use Rattle.ra_arguments.specs.declared.settle_arguments.SettleTask.{SettleTask}
 
--- these are the options of `settle`, in either order, by which messages may come again or not, and this is printed
+-- these are the options of `settle`, in either order: they say whether messages may come again, and what is printed
 abbrev pub AreOptionsOf : (repeats : Bool) → (printed : SettleOutput) → (options : List (List ℕ)) → Type 0
 AreOptionsOf false Lines options = options ≡ []
 AreOptionsOf false Trace options = options ≡ codes "--trace" ∷ []

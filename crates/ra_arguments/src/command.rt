@@ -55,8 +55,8 @@ pub struct CommandLine<'a> {
     pub fault: Option<UsageFault<'a>>,
 }
 
-/// Reads the arguments of a command line. The first is the program's name. They are read once: the first cause for
-/// which they ask for nothing is kept.
+/// Reads the arguments of a command line. The first is the program's name. They are read once: the first cause why they
+/// ask for nothing is kept.
 pub fn read_command_line<'a>(alloc: Global, arguments: &'a [String]) -> CommandLine<'a>
     ensures asks { Asks (map string_bytes arguments.now) result.asked }
     ensures cause { IsCauseWith (map string_bytes arguments.now) result.asked result.fault }

@@ -197,7 +197,7 @@ fn seeds_of(text: &str) -> Result<SeedRange, UsageCause>
 /// # Errors
 ///
 /// The last of the options `--as-choices`, `--shrink` and `--state` that is given, if the flags ask for two things, or
-/// for choices when some may be repeats, for which there is no word.
+/// for choices when some may be repeats, which no word can say.
 fn flagged_format(
     may_repeat: bool,
     traces: bool,
@@ -439,7 +439,7 @@ fn cluster_task<'a>(given: &ArgMatches<'a>) -> Result<Task<'a>, UsageCause>
 ///
 /// # Errors
 ///
-/// Those of its command, or `OfNode` or `OfSettle`: the parser takes an argument that is none of `node` or `settle`.
+/// Those of its command, or `OfNode` or `OfSettle`: the parser takes an argument that `node` or `settle` does not have.
 fn task_in<'a>(command: &str, given: &ArgMatches<'a>) -> Result<Task<'a>, UsageCause>
     ensures { IsTaken (meaning_in command.now (rows_of (found_of given.now))) result }
 {
@@ -459,7 +459,7 @@ fn task_in<'a>(command: &str, given: &ArgMatches<'a>) -> Result<Task<'a>, UsageC
 ///
 /// # Errors
 ///
-/// The first cause for which it means nothing.
+/// The first cause why it means nothing.
 fn task_of<'a>(matches: &ArgMatches<'a>) -> Result<Task<'a>, UsageCause>
     ensures { IsTaken (meaning_given (subcommand_rows_of matches.now)) result }
 {
@@ -558,7 +558,7 @@ fn help_text(alloc: Global, arguments: &[String], error: &ParseError) -> Result<
     Ok(text)
 }
 
-/// Returns the text of help, or the version, for which the arguments ask, if that is why the parser stopped.
+/// Returns the text of help, or the version, that the arguments ask for, if that is why the parser stopped.
 ///
 /// # Errors
 ///

@@ -1,4 +1,4 @@
-//! What the arguments of a command line ask for, or the first cause for which they ask for nothing.
+//! What the arguments of a command line ask for, or the first cause why they ask for nothing.
 #![tactic(auto)]
 
 mod cluster_output;

@@ -2,7 +2,7 @@
 ghost use Rattle.std.specs.Prelude.{map, string_bytes, MatchOption};
 ghost use Rattle.ra_arguments.specs.SettleArguments.{AreNoOptions, AreOptionsFor, AreSettleArguments, AsksToSettle};
 
-/// What `ra settle` prints of the run into which books settle.
+/// What `ra settle` prints of the run that books settle into.
 #[derive(Clone, Copy)]
 pub enum SettleOutput {
     /// The lines of its report.

@@ -38,7 +38,7 @@ pub enum UsageCause {
     Books,
     /// An argument after `node`.
     OfNode,
-    /// An argument after `settle` that is none of its options.
+    /// An argument after `settle` that is not one of its options.
     OfSettle,
 }
 

@@ -31,11 +31,11 @@ pub struct OptionRow<'a> {
     hides_default: bool,
     /// Which values it takes, as a note says it after 'must be'. A flag takes none.
     values: Option<&'a str>,
-    /// The policies under which it has an effect, if it has none under another.
+    /// The policies with which it has an effect, if it has none with another.
     effect: Option<Effect<'a>>,
 }
 
-/// The policies under which an option has an effect, and what a note says under another.
+/// The policies with which an option has an effect, and what a note says with another.
 #[derive(Clone, Copy)]
 pub struct Effect<'a> {
     policies: &'a [&'a str],

@@ -5,7 +5,7 @@ use ra_script::OutputKind;
 /// What is looked for among the runs of many seeds.
 #[derive(Clone, Copy)]
 pub struct Search {
-    /// The end to which the run comes.
+    /// The end that the run comes to.
     pub ending: Ending,
     /// What is printed of the first run that comes to it.
     pub format: OutputKind,
