@@ -23,7 +23,7 @@ pub struct Openings<'a> {
     pub first: Option<Opening<'a>>,
     /// The last of them, if there is one.
     pub last: Option<Opening<'a>>,
-    /// For each number of a node, the line at which its book begins, if it has one.
+    /// For each number of a node, the line that begins its book, if it has one.
     lines: [Option<u64>; NODE_NUMBERS],
 }
 
@@ -63,7 +63,7 @@ impl<'a> Openings<'a> {
         (openings, rest)
     }
 
-    /// Returns the line at which the book of a node begins, or `None` if it has none.
+    /// Returns the line that begins the book of a node, or `None` if it has none.
     pub fn line_of(&self, node: u16) -> Option<u64> {
         match self.lines.get(usize::from(node)) {
             Some(line) => *line,

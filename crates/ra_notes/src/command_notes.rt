@@ -36,7 +36,7 @@ pub fn write_output_note<N: Write>(fault: Option<OutputFault>, notes: &mut N) {
     write_line(notes, text);
 }
 
-/// Returns what there is to say about the end of a trace in which this many messages were sent, or of a mark log.
+/// Returns what to say about the end of a trace in which this many messages were sent, or of a mark log.
 pub fn of_end(alloc: Global, text: Option<&[u8]>, sent: u128) -> Notice {
     let Some(text) = text else {
         return Notice::Text(UNEXPLAINED);
@@ -115,7 +115,7 @@ pub fn of_check(why: TraceError) -> Notice {
     })
 }
 
-/// Returns what there is to say about a part in which no line is, if the input has this many.
+/// Returns what to say about a part without lines, if the input has this many.
 fn of_part(alloc: Global, asked: &Command<'_>, lines: u64) -> Notice {
     let mut note = Note::new(alloc);
     match asked {

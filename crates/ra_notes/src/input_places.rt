@@ -99,7 +99,8 @@ pub fn frame_notice(
     placed(place, Notice::Text(UNEXPLAINED))
 }
 
-/// Returns the policy by which a run was made, of many seeds by the last one that was tried, or `None` if none was.
+/// Returns the policy that made a run, or with many seeds the policy with the last one that was tried, or `None` if
+/// none was.
 pub fn policy_by(alloc: Global, source: &NoteSource<'_>) -> Option<Policy> {
     let Command::Task(task) = source.asked else {
         return None;
@@ -128,8 +129,8 @@ pub fn unfinished_notice(alloc: Global, source: &NoteSource<'_>) -> Notice {
 }
 
 /// Returns why a line of a trace is wrong, with the line of the send or mark that is due there. A text that was to be
-/// drawn is checked once more for that. If memory runs out for it, the line is not known. Of a text that was checked,
-/// `due` is that line.
+/// drawn is checked again for that. If memory runs out for it, the line is not known. If the text was checked, `due` is
+/// that line.
 fn cause_in(alloc: Global, text: JudgedText<'_>, cause: Cause, due: Option<Line>) -> LineCause {
     match (cause, text) {
         (Cause::Sends | Cause::Marks, JudgedText::Checked(_)) => LineCause::Due(due),

@@ -14,7 +14,7 @@ pub struct NoteSource<'a> {
     pub seen: Option<&'a [u8]>,
     /// What `draw` and `settle` hand back: the text that they read.
     pub text: &'a [u8],
-    /// Of many seeds, the last one that was tried.
+    /// The last seed of a survey that was tried.
     pub last_seed: Option<u64>,
 }
 

@@ -1,4 +1,4 @@
-//! A reader that remembers what was read of it, so that it can be said where something is wrong.
+//! A reader that remembers what was read from it, so that a note can say where something is wrong.
 ghost use Rattle.std.specs.Prelude.{◌≡◌};
 
 use ra_script::MAX_SCRIPT;
@@ -51,7 +51,7 @@ impl RecordedInput {
         if known < next.len() {
             let room = self.most.saturating_sub(self.bytes.len());
             let end = known.saturating_add(room).min(next.len());
-            // What comes after bytes for which there was no memory would be at a wrong place.
+            // If there was no memory for some bytes, what comes after them would be at a wrong place.
             self.is_whole = self.is_whole
                 && self.bytes.extend_from_slice(&next[known..end]).is_ok();
         }

@@ -9,7 +9,7 @@ use std::io::{ErrorKind, Write};
 pub enum OutputFault {
     /// It is no longer read, for example a pipe whose other end is closed.
     Unread,
-    /// No space is left where it writes to.
+    /// No space is left at its destination.
     Full,
     /// Another one, or it took nothing of some bytes.
     Other,

@@ -12,8 +12,8 @@ use std::alloc::Global;
 pub struct ClientState {
     pub client: u32,
     pub name: Name,
-    /// How far it is, or `None` if it neither waits, nor is queued, nor holds. Of a client that waits, the line is that
-    /// of its ask. Lines are counted over the whole text.
+    /// How far it is, or `None` if it neither waits, nor is queued, nor holds. If it waits, the line is that of its
+    /// ask. Lines are counted over the whole text.
     pub reached: Option<Reached>,
 }
 
@@ -89,7 +89,7 @@ fn first_refusal(
 }
 
 /// Returns why the node of a book refuses the line with this number, after the lines of the book before it. If a client
-/// asks, leaves or gives up by the line, it also returns how far that client is before it. Returns `None` if there is
+/// asks, leaves or gives up in the line, it also returns how far that client is before it. Returns `None` if there is
 /// no memory to tell. The cost is that of the lines at a node.
 pub fn refused_event(
     alloc: Global,

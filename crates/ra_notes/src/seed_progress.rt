@@ -6,7 +6,7 @@ use ra_text::Note;
 use std::alloc::Global;
 use std::io::Write;
 
-/// The work after which a line is written, in turns. It takes some seconds; there is no clock to measure them.
+/// The work between two lines, in turns. It takes some seconds; there is no clock to measure them.
 const WORK_OF_A_LINE: u64 = 1 << 23;
 
 /// The work of a run besides its turns, in turns.

@@ -1,4 +1,4 @@
-//! What is said of the line at which a text of books is wrong.
+//! What is said about the wrong line of a text of books.
 use crate::book_openings::Openings;
 use crate::input_places::PlaceNote;
 use crate::note_texts::text_cause_text;
@@ -10,7 +10,7 @@ use ra_explain::{push_number_in, push_numbered};
 use ra_text::{Note, cut};
 use std::alloc::Global;
 
-/// Adds why the books with these first lines are not those of all nodes. If the wrong line begins another book, its
+/// Adds why the books with these first lines are not the books of all nodes. If the wrong line begins another book, its
 /// node has a book already, or it has another number of nodes or another start. Otherwise the book of a node is
 /// missing. Returns whether it adds anything.
 fn push_books(note: &mut Note, openings: &Openings<'_>, another: &Option<FirstLine>) -> bool {
@@ -41,7 +41,7 @@ fn push_books(note: &mut Note, openings: &Openings<'_>, another: &Option<FirstLi
     false
 }
 
-/// Adds in which book a line is, and which frame comes by it, if one does. If the node of the book refuses the line, it
+/// Adds in which book a line is, and which frame comes in it, if one does. If the node of the book refuses the line, it
 /// adds why. Returns whether it adds why.
 fn push_event(
     alloc: Global,

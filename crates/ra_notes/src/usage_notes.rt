@@ -9,8 +9,8 @@ use ra_schedule::read_choices;
 use ra_text::Note;
 use std::alloc::Global;
 
-/// Returns the option that takes a value and is followed by an argument that the parser takes for an option, though it
-/// is none, such as a negative number, and that argument, or `None`.
+/// Returns an option that takes a value, with the argument after it, if the parser takes that argument for an option
+/// though it is not one, such as a negative number. Otherwise returns `None`.
 fn no_option_in(arguments: &[String]) -> Option<(&str, &str)> {
     for place in 2..arguments.len() {
         let next = arguments[place].as_str();
@@ -142,7 +142,7 @@ fn push_parsed(alloc: Global, note: &mut Note, arguments: &[String], said: &str)
     }
 }
 
-/// Adds what the parser says about the arguments with its error. It stops for help, for which no argument asks, only at
+/// Adds what the parser says about the arguments with its error. It stops for help that no argument asks for only at
 /// one that has `-h` or `-V` among others.
 fn push_error(alloc: Global, note: &mut Note, arguments: &[String], error: &ParseError) {
     if matches!(

@@ -56,8 +56,9 @@ impl ClientEnd {
 }
 
 impl<'a> RunEnd<'a> {
-    /// Returns the end of this many turns of a script by a policy, given their report. Each request is there since the
-    /// place of its mark, counted from 1. If memory ran out, the note records it. The cost is linear in the marks.
+    /// Returns the end of this many turns of a script by a policy, given their report. Each request has its present
+    /// state since the place of its mark, counted from 1. If memory ran out, the note records it. The cost is linear in
+    /// the marks.
     pub fn new(
         alloc: Global,
         note: &mut Note,

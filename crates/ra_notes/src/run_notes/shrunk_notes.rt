@@ -31,7 +31,7 @@ fn push_shorter(alloc: Global, note: &mut Note, script: &Script, policy: &Policy
 
 /// Returns the note on a policy's run of the script in a text. If the run is stuck, it is shrunk: a line says by how
 /// much, and another one what is left to do in the shorter run. Otherwise one line says what is left to do in the run
-/// itself. Of that, [`unfinished_note`](crate::unfinished_note) says more. It costs as much as to shrink the run.
+/// itself. [`unfinished_note`](crate::unfinished_note) says more about that. It costs as much as to shrink the run.
 ///
 /// # Errors
 ///
@@ -57,9 +57,9 @@ fn shrunk_note(alloc: Global, script: &[u8], policy: &Policy) -> Result<Option<S
     note.finish()
 }
 
-/// Writes by how much an unfinished run was shrunk, and what is left to do in the shorter one. Of a run that is not
-/// stuck, it writes what is left to do in the run itself. If memory runs out, or the script or the run is not known, it
-/// writes that. It ignores a failure of the writer.
+/// Writes by how much an unfinished run was shrunk, and what is left to do in the shorter one. If the run is not stuck,
+/// it writes what is left to do in the run itself. If memory runs out, or the script or the run is not known, it writes
+/// that. It ignores a failure of the writer.
 pub fn write_shrunk_notes<N: Write>(alloc: Global, source: &NoteSource<'_>, notes: &mut N) {
     let told = match (source.seen, &policy_by(alloc, source)) {
         (Some(script), Some(policy)) => shrunk_note(alloc, script, policy),

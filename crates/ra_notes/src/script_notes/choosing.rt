@@ -10,7 +10,7 @@ use ra_stamp::Memory;
 use ra_text::Note;
 use std::alloc::Global;
 
-/// Adds why a choice can't be made at the end of a part of a run. Of a client's choice it adds what the client does,
+/// Adds why a choice can't be made at the end of a part of a run. For a client's choice it adds what the client does,
 /// and otherwise how many messages are under way, and which places they have.
 fn push_reason(note: &mut Note, ending: &RunEnd<'_>, choice: Choice) {
     let count = ending.report.under_way;

@@ -1,4 +1,4 @@
-//! Why threads may not run a script, and where in the script the reason is.
+//! Why threads may not run a script, and the place of the reason in the script.
 use crate::script_notes::script_text::script_in;
 use ra_explain::push_number_in;
 use ra_schedule::{Op, Script, first_out_of_order, first_unreleased};

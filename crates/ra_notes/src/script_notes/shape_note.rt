@@ -72,7 +72,7 @@ fn array_in<'a>(
     None
 }
 
-/// Says what is wrong with the shape of a client, of whose operations the first that is not a string.
+/// Says what is wrong with the shape of a client: for its operations, it names the first that is not a string.
 fn say_client(note: &mut Note, client: &Value) {
     let Some(table) = client.as_table() else {
         note.push("not a table: ");
