@@ -21,7 +21,7 @@ use std::sync::Wait;
 use std::thread::Threads;
 
 /// Does as [`refuse_arguments`], and then writes a line for a person to `notes`. It writes another if `writer` failed,
-/// unless that is a pipe that is no longer read. A failure of `notes` changes nothing else.
+/// unless that is a pipe that is not read any more. A failure of `notes` changes nothing else.
 pub fn refuse_arguments_with_note<W: Write, N: Write>(
     writer: &mut RecordingWriter<W>,
     fault: CommandFault,
@@ -39,8 +39,8 @@ pub fn refuse_arguments_with_note<W: Write, N: Write>(
 /// Does as [`ra_cli::serve`], and then writes lines for a person to `notes`:
 ///
 /// - If something was refused, a text is no trace, a log is no mark log, books do not settle, or a run ended with
-///   something left to do, a line says what is wrong, where in what was read, and what would be right. Of a run that
-///   was shrunk, it is about the shorter one, and another line says by how much.
+///   something left to do, a line says what is wrong, where in what was read, and what would be right. If a run was
+///   shrunk, it is about the shorter one, and another line says by how much.
 /// - If a text is a trace or a mark log, a line says what is left at its end, if anything is, or that a log has no
 ///   mark.
 /// - If requests were withdrawn in a text that was checked or drawn, or in books that settled, a line says which, and
@@ -51,10 +51,10 @@ pub fn refuse_arguments_with_note<W: Write, N: Write>(
 ///
 /// If the input is at a terminal, the first line says what the command waits for. While many seeds take long, it writes
 /// there how far it is. Each line begins with `ra: `. No note goes to `writer`, and a note is left out if memory or
-/// `notes` fails, which changes nothing else. To find the place in a script, it is read once more. To find which client
-/// waits for which, it is run once more, and shrunk once more if it was. For the mark that is due, a trace that was to
-/// be drawn is checked once more. For what was withdrawn, books in which a client gives up are settled once more, if
-/// they have at most 16,777,216 bytes.
+/// `notes` fails, which changes nothing else. To find the place in a script, it is read again. To find which client
+/// waits for which, it is run again, and shrunk again if it was. For the mark that is due, a trace that was to be drawn
+/// is checked again. For what was withdrawn, books in which a client gives up are settled again, if they have at most
+/// 16,777,216 bytes.
 pub fn serve_with_notes<T: Threads + Wait + Sync, R: BufRead, W: Write, N: Write>(
     rt: &T,
     alloc: Global,
@@ -64,7 +64,7 @@ pub fn serve_with_notes<T: Threads + Wait + Sync, R: BufRead, W: Write, N: Write
     writer: &mut RecordingWriter<W>,
     notes: &mut N,
 ) -> u8
-    // What is promised of the status, the reader and the writer is the same, whatever becomes of the note.
+    // The same is promised about the status, the reader and the writer, whatever happens to the note.
     ensures { Serves
         (helps_of ANSWER_HELP.now SIM_HELP.now CLUSTER_HELP.now CHECK_HELP.now DRAW_HELP.now NODE_HELP.now
         SETTLE_HELP.now SUMMARY_HELP.now STATUS_HELP.now)
