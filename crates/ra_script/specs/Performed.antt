@@ -78,13 +78,25 @@ pub record HasNoWords (policy : Policy) (input : List ℕ) : Type 0 where
   pub ends : Ends script policy moves
   pub repeats : repeated_by moves ≢ []
 
+-- the policy's run is stuck, and a least run to which it is shrunk repeats a message, for which there is no word
+pub record ShrinksToRepeat (policy : Policy) (input : List ℕ) : Type 0 where
+  pub script : ScriptState
+  pub script_is : script_of input ≡ Ok script
+  pub moves : List Move
+  pub follows : Follows script policy moves
+  pub ends : Ends script policy moves
+  pub stuck : IsStuckRun script moves
+  pub choices : Listing Choice
+  pub least : IsLeastOf script moves choices
+  pub repeats : repeated_by least.moves ≢ []
+
 -- choices are to be written, and one of them has no word
 abbrev pub Unwritten : OutputKind → Policy → List ℕ → Type 0
 Unwritten Lines policy input = ⊥
 Unwritten Trace policy input = ⊥
 Unwritten TraceWithSends policy input = ⊥
 Unwritten Choices policy input = HasNoWords policy input
-Unwritten Shrunk policy input = HasNoWords policy input
+Unwritten Shrunk policy input = ShrinksToRepeat policy input
 Unwritten State policy input = ⊥
 
 -- when each refusal may come: its cause applies. `Memory` and faults of the reader and the writer come from outside,

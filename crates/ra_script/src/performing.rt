@@ -164,7 +164,7 @@ fn line_or_none(alloc: Global, choices: &Option<Choices>) -> Result<String, Choi
 /// The first that holds, except that `Memory` may come before the others:
 ///
 /// 1. `Drive`: the policy can't go on.
-/// 2. `Choice`: a message is repeated, which no word can say.
+/// 2. `Choice`: the run is stuck, and what it is shrunk to repeats a message, which no word can say.
 /// 3. `Memory`: memory ran out.
 fn shrunk_of(alloc: Global, policy: &Policy, script: &Script) -> Result<Printed, PerformError>
     ensures { PrintsRun OutputKind.Shrunk policy.now script.now result }
@@ -202,7 +202,7 @@ fn state_of(alloc: Global, policy: &Policy, script: &Script) -> Result<Printed, 
 /// The first that holds, except that `Memory` may come before the others:
 ///
 /// 1. `Drive`: the policy can't go on.
-/// 2. `Choice`: the choices are to be written, and a message is repeated, which no word can say.
+/// 2. `Choice`: choices are to be written, and one of them repeats a message, which no word can say.
 /// 3. `Memory`: memory ran out.
 pub fn print_run(
     alloc: Global,
@@ -243,7 +243,7 @@ pub fn print_run(
 /// 1. `Read`: the reader failed, before its end and before it gave 65,537 bytes.
 /// 2. `Script`: the input is no script.
 /// 3. `Drive`: a choice is left after the last turn, or can't be made.
-/// 4. `Choice`: choices are to be written, and a message is repeated, which no word can say.
+/// 4. `Choice`: choices are to be written, and one of them repeats a message, which no word can say.
 /// 5. `Memory`: memory ran out.
 /// 6. `Write`: the writer failed or took nothing, with bytes left to write. A prefix of the text was written.
 ///

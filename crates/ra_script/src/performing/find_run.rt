@@ -21,8 +21,8 @@ use std::alloc::Global;
 ///
 /// The first that holds, except that `Memory` may come before the other:
 ///
-/// 1. `Choice`: the choices are to be written, and a message is repeated, which no word can say. The observer learned
-///    of each seed up to the run's.
+/// 1. `Choice`: choices are to be written, and one of them repeats a message, which no word can say. The observer
+///    learned of each seed up to that of the run.
 /// 2. `Memory`: memory ran out at some seed, and the observer learned of those before it; or for the text, and the
 ///    observer learned of each seed up to the run's.
 pub fn find_run<O: Observer>(

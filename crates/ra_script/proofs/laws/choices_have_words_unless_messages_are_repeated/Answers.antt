@@ -17,7 +17,7 @@ written law Trace policy input unrepeated none = none
 written law TraceWithSends policy input unrepeated none = none
 written law State policy input unrepeated none = none
 written law Choices policy input unrepeated none = none.repeats (law none.script policy none.moves unrepeated none.follows)
-written law Shrunk policy input unrepeated none = none.repeats (law none.script policy none.moves unrepeated none.follows)
+written law Shrunk policy input unrepeated none = none.repeats (none.least.unrepeated (law none.script policy none.moves unrepeated none.follows))
 
 pub returns : goal.returns
 returns c =
