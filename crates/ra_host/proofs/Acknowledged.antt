@@ -14,7 +14,7 @@ use Rattle.ra_host.specs.Linked.{AreTexts, IsLinked, IsAcknowledged, AreLinked, 
 use Rattle.ra_host.proofs.LinkedBooks.{texts_long}
 
 -- the first part of a list that is as long as the list
-all_of_it : (first all : List Frame) → AreFirstOf first all → length first ≡ length all → first ≡ all
+pub all_of_it : (first all : List Frame) → AreFirstOf first all → length first ≡ length all → first ≡ all
 all_of_it first all (more, is) long = none more (omega (arith, ap length is, length-append first more, long)) is
   where
     none : (more : List Frame) → length more ≡ 0 → all ≡ first ++ more → first ≡ all

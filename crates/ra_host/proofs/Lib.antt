@@ -1,2 +1,9 @@
 mod LinkedBooks
 mod Acknowledged
+pub mod Sound
+pub mod Views
+pub mod Turned
+pub mod Pairs
+mod Coded
+mod HostBooks
+mod HostLaws

@@ -1,1 +1,4 @@
 pub mod Linked
+pub mod Host
+pub mod Hosts
+pub mod Projection

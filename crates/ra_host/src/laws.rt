@@ -1,4 +1,6 @@
 //! What is true of hosts. Each function does nothing, and its contract is the law.
+pub mod hosts;
+
 ghost use Rattle.std.specs.Prelude.{ℕ, List, All};
 ghost use Rattle.ra_world.specs.Quiet.{IsQuiet};
 ghost use Rattle.ra_world.specs.Traffic.{Move};
