@@ -11,7 +11,7 @@ use std::alloc::Global;
 use std::cmp::max;
 
 /// What happens at a node.
-#[derive(Clone, Copy, Debug)]
+#[derive(Clone, Copy)]
 enum Event {
     /// A client asks for a name, exclusively.
     Ask { client: u32, name: Name },
@@ -69,24 +69,48 @@ struct Host {
 }
 
 impl Host {
-    /// Lets an event happen at a node, prints its marks and sends its messages, as frames that carry the node's clock.
+    /// Makes the host of two nodes, between which no frame is under way.
+    fn new(alloc: Global, one: NodeId, two: NodeId) -> Result<Host> {
+        Ok(Host {
+            sites: [Site::new(alloc, one)?, Site::new(alloc, two)?],
+            under_way: Vec::new(alloc),
+        })
+    }
+
+    /// Lets an event happen at a node, prints its marks and sends its messages.
     fn step(&mut self, rt: &impl Print, alloc: Global, node: NodeId, event: Event) -> Result<()> {
         let place = node.place();
         let site = self.sites.get_mut(place).context("there is no such node")?;
         let outcome = site.step(alloc, event)?;
+        let clock = site.clock;
+        self.tell(rt, alloc, clock, &outcome)
+    }
+
+    /// Prints marks and sends messages, as frames that carry the node's clock.
+    fn tell(
+        &mut self,
+        rt: &impl Print,
+        alloc: Global,
+        clock: u64,
+        outcome: &Outcome,
+    ) -> Result<()> {
         for mark in outcome.marks.as_slice() {
             println!(rt; "{mark}")?;
         }
         for &message in outcome.sends.as_slice() {
-            let clock = site.clock;
-            let frame = Frame { clock, message };
-            // `encode` requires that the frame fits: without this line the program is not proved.
-            ensure!(frame.fits(), "the frame does not fit");
-            let bytes = encode(alloc, &frame)?;
-            let digits = hex::encode(alloc, &bytes)?;
-            println!(rt; "frame {} to {}: {digits}", message.from(), message.to())?;
-            self.under_way.push((message.to(), bytes))?;
+            self.send(rt, alloc, &Frame { clock, message })?;
         }
+        Ok(())
+    }
+
+    /// Puts the bytes of a frame under way, and prints them.
+    fn send(&mut self, rt: &impl Print, alloc: Global, frame: &Frame) -> Result<()> {
+        // `encode` requires that the frame fits: without this line the program is not proved.
+        ensure!(frame.fits(), "the frame does not fit");
+        let (bytes, to) = (encode(alloc, frame)?, frame.message.to());
+        let digits = hex::encode(alloc, &bytes)?;
+        println!(rt; "frame {} to {to}: {digits}", frame.message.from())?;
+        self.under_way.push((to, bytes))?;
         Ok(())
     }
 
@@ -105,24 +129,25 @@ impl Host {
     }
 }
 
+/// Has a client of each node ask for the name and leave it.
+fn play(rt: &impl Print, alloc: Global, host: &mut Host, one: NodeId, two: NodeId) -> Result<()> {
+    let name = Name::new(b"disk")?;
+    // Both ask before a frame came, so both requests have the number 1. Then the lower node goes first: node 1 defers
+    // its REPLY, so client 7 enters and client 9 waits.
+    host.step(rt, alloc, one, Event::Ask { client: 7, name })?;
+    host.step(rt, alloc, two, Event::Ask { client: 9, name })?;
+    host.deliver_all(rt, alloc)?;
+
+    // Client 7 leaves, the REPLY goes out, and by it client 9 enters.
+    host.step(rt, alloc, one, Event::Leave { client: 7, name })?;
+    host.deliver_all(rt, alloc)?;
+    host.step(rt, alloc, two, Event::Leave { client: 9, name })
+}
+
 fn main(rt: HostRuntime) -> Result<()> {
     let alloc = rt.alloc();
     let one = NodeId::new(1).context("a node's number is 1 to 64")?;
     let two = NodeId::new(2).context("a node's number is 1 to 64")?;
-    let name = Name::new(b"disk")?;
-    let mut host = Host {
-        sites: [Site::new(alloc, one)?, Site::new(alloc, two)?],
-        under_way: Vec::new(alloc),
-    };
-
-    // Both ask before a frame came, so both requests have the number 1. Then the lower node goes first: node 1 defers
-    // its REPLY, so client 7 enters and client 9 waits.
-    host.step(&rt, alloc, one, Event::Ask { client: 7, name })?;
-    host.step(&rt, alloc, two, Event::Ask { client: 9, name })?;
-    host.deliver_all(&rt, alloc)?;
-
-    // Client 7 leaves, the REPLY goes out, and by it client 9 enters.
-    host.step(&rt, alloc, one, Event::Leave { client: 7, name })?;
-    host.deliver_all(&rt, alloc)?;
-    host.step(&rt, alloc, two, Event::Leave { client: 9, name })
+    let mut host = Host::new(alloc, one, two)?;
+    play(&rt, alloc, &mut host, one, two)
 }
