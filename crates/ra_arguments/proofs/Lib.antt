@@ -1,5 +1,4 @@
 mod Helping
-mod Settling
 mod SettleArguments
 mod Places
 mod Parsing

@@ -1,29 +1,57 @@
--- Which arguments ask `ra` to settle books.
-use Rattle.std.specs.Prelude.{◌≡◌, ◌⊎◌, ℕ, Bool, false, true, List, [], ◌∷◌, codes}
-use Rattle.ra_arguments.specs.declared.settle_arguments.SettleOutput.{SettleOutput}
+-- Which arguments ask `ra` to settle books. They are known without the parser, so that memory can't run out for them.
+use Rattle.std.specs.Prelude.{◌≡◌, ◌++◌, ◌&&◌, ◌||◌, Bool, true, false, not, List, [], ◌∷◌, Option, Some, None, codes, if◌then◌else◌}
+use Rattle.std.specs.Str.{bytes_eq}
+use Rattle.clap.specs.Words.{Rule, Text}
+use Rattle.clap.specs.declared.builder.action.ArgAction.{ArgAction}
+use Rattle.clap.specs.declared.builder.action.ArgAction.TheVariants as action
 use Rattle.ra_arguments.specs.declared.settle_arguments.SettleOutput.TheVariants.{Lines, Trace}
 use Rattle.ra_arguments.specs.declared.settle_arguments.SettleTask.{SettleTask}
+use Rattle.ra_arguments.specs.Application.{settle_options}
 
--- these are the options of `settle`, in either order: they say whether messages may come again, and what is printed
-abbrev pub AreOptionsOf : (repeats : Bool) → (printed : SettleOutput) → (options : List (List ℕ)) → Type 0
-AreOptionsOf false Lines options = options ≡ []
-AreOptionsOf false Trace options = options ≡ codes "--trace" ∷ []
-AreOptionsOf true Lines options = options ≡ codes "--repeats" ∷ []
-AreOptionsOf true Trace options =
-    (options ≡ codes "--repeats" ∷ codes "--trace" ∷ []) ⊎ (options ≡ codes "--trace" ∷ codes "--repeats" ∷ [])
+-- ---- options that take nothing
 
-abbrev pub AreOptionsFor : (options : List (List ℕ)) → SettleTask → Type 0
-AreOptionsFor options asked = AreOptionsOf asked.repeats asked.printed options
+-- an option with this action takes nothing, and is not help
+abbrev pub takes_nothing : Option ArgAction → Bool
+takes_nothing (Some action.SetTrue) = true
+takes_nothing _ = false
 
--- these are not options of `settle`: no task is asked for by them
-abbrev pub AreNoOptions : (options : List (List ℕ)) → Type 0
-AreNoOptions options = (asked : SettleTask) → AreOptionsFor options asked → ⊥
+-- the argument is this option, which takes nothing
+abbrev pub is_flag : (argument : Text) → Rule → Bool
+is_flag argument rule = takes_nothing rule.action && bytes_eq argument (codes "--" ++ rule.id)
 
--- the arguments are the program's name, `settle`, and options that ask for this
-abbrev pub AsksToSettle : (arguments : List (List ℕ)) → SettleTask → Type 0
-AsksToSettle arguments asked = (name : List ℕ) × (options : List (List ℕ))
-    × (arguments ≡ name ∷ codes "settle" ∷ options)
-    × AreOptionsFor options asked
+-- the argument is one of these options, which takes nothing
+abbrev pub is_flag_among : List Rule → (argument : Text) → Bool
+is_flag_among [] argument = false
+is_flag_among (rule ∷ rules) argument = is_flag argument rule || is_flag_among rules argument
 
-abbrev pub AreSettleArguments : (arguments : List (List ℕ)) → Type 0
+-- one of the arguments is this text
+abbrev pub has_text : Text → (arguments : List Text) → Bool
+has_text text [] = false
+has_text text (argument ∷ arguments) = bytes_eq argument text || has_text text arguments
+
+-- each argument is such an option, and none comes twice
+abbrev pub are_flags : List Rule → (arguments : List Text) → Bool
+are_flags rules [] = true
+are_flags rules (argument ∷ arguments) =
+    if is_flag_among rules argument && not (has_text argument arguments) then are_flags rules arguments else false
+
+-- ---- `settle`
+
+-- how books are settled if these arguments follow `settle`: they are its options, in any order, each at most once
+abbrev pub settling_by : (options : List Text) → Option SettleTask
+settling_by options = if are_flags settle_options options then Some (record {
+  repeats = has_text (codes "--repeats") options;
+  printed = if has_text (codes "--trace") options then Trace else Lines;
+}) else None
+
+-- how the arguments ask to settle books, if they are the program's name, `settle` and its options
+abbrev pub settling_of : (arguments : List Text) → Option SettleTask
+settling_of [] = None
+settling_of (program ∷ []) = None
+settling_of (program ∷ name ∷ options) = if bytes_eq name (codes "settle") then settling_by options else None
+
+abbrev pub AsksToSettle : (arguments : List Text) → SettleTask → Type 0
+AsksToSettle arguments asked = settling_of arguments ≡ Some asked
+
+abbrev pub AreSettleArguments : (arguments : List Text) → Type 0
 AreSettleArguments arguments = (asked : SettleTask) × AsksToSettle arguments asked

@@ -1,6 +1,11 @@
-//! The arguments that ask to settle books.
-ghost use Rattle.std.specs.Prelude.{map, string_bytes, MatchOption};
-ghost use Rattle.ra_arguments.specs.SettleArguments.{AreNoOptions, AreOptionsFor, AreSettleArguments, AsksToSettle};
+//! The arguments that ask to settle books. The parser isn't asked for them, so that memory can't run out, but its rows
+//! say which options there are.
+ghost use Rattle.std.specs.Prelude.{◌≡◌, map, string_bytes};
+ghost use Rattle.ra_arguments.specs.OptionTable.{rule_of_row};
+ghost use Rattle.ra_arguments.specs.SettleArguments as spec;
+
+use crate::command_line::command_rows::CommandKind;
+use crate::command_line::option_rows::{OptionRow, is_flag_among, options_of};
 
 /// What `ra settle` prints of the run that books settle into.
 #[derive(Clone, Copy)]
@@ -20,48 +25,58 @@ pub struct SettleTask {
     pub printed: SettleOutput,
 }
 
-/// Returns what the arguments after `settle` ask for, or `None` if they are not its options, each at most once. It does
-/// not allocate.
-fn options_of(options: &[String]) -> Option<SettleTask>
-    ensures { MatchOption result (AreNoOptions (map string_bytes options.now))
-        (AreOptionsFor (map string_bytes options.now)) }
+/// Returns whether one of the arguments is this text. It does not allocate.
+fn has_text(arguments: &[String], text: &str) -> bool
+    ensures { result ≡ spec.has_text text.now (map string_bytes arguments.now) }
 {
-    match options {
-        [] => Some(SettleTask {
-            repeats: false,
-            printed: SettleOutput::Lines,
-        }),
-        [one] => match one.as_str() {
-            "--repeats" => Some(SettleTask {
-                repeats: true,
-                printed: SettleOutput::Lines,
-            }),
-            "--trace" => Some(SettleTask {
-                repeats: false,
-                printed: SettleOutput::Trace,
-            }),
-            _ => None,
-        },
-        [one, other] => match (one.as_str(), other.as_str()) {
-            ("--repeats", "--trace") | ("--trace", "--repeats") => Some(SettleTask {
-                repeats: true,
-                printed: SettleOutput::Trace,
-            }),
-            _ => None,
-        },
-        _ => None,
+    for argument in arguments {
+        if argument.as_str() == text {
+            return true;
+        }
     }
+    false
 }
 
-/// Returns how the arguments ask to settle books, or `None` if they do not: they are the program's name, `settle`, and
-/// perhaps `--repeats` and `--trace`, in either order. It does not allocate.
+/// Returns whether each argument is one of these options that takes nothing, and none comes twice. It does not
+/// allocate.
+fn are_flags(rows: &[OptionRow<'_>], arguments: &[String]) -> bool
+    ensures { result ≡ spec.are_flags (map rule_of_row rows.now) (map string_bytes arguments.now) }
+{
+    for place in 0..arguments.len() {
+        let argument = arguments[place].as_str();
+        if !is_flag_among(rows, argument) || has_text(&arguments[place + 1..], argument) {
+            return false;
+        }
+    }
+    true
+}
+
+/// Returns how books are settled if these arguments follow `settle`, or `None` if they are not its options, each at
+/// most once. It does not allocate.
+fn settling_by(options: &[String]) -> Option<SettleTask>
+    ensures { result ≡ spec.settling_by (map string_bytes options.now) }
+{
+    if !are_flags(options_of(CommandKind::Settle), options) {
+        return None;
+    }
+    Some(SettleTask {
+        repeats: has_text(options, "--repeats"),
+        printed: if has_text(options, "--trace") {
+            SettleOutput::Trace
+        } else {
+            SettleOutput::Lines
+        },
+    })
+}
+
+/// Returns how the arguments ask to settle books, or `None` if they do not: they are the program's name, `settle` and
+/// its options, in any order. It does not allocate.
 pub fn settle_arguments(arguments: &[String]) -> Option<SettleTask>
-    ensures { MatchOption result (AreSettleArguments (map string_bytes arguments.now) → ⊥)
-        (AsksToSettle (map string_bytes arguments.now)) }
+    ensures { result ≡ spec.settling_of (map string_bytes arguments.now) }
 {
     match arguments {
         [_, argument, options @ ..] => match argument.as_str() {
-            "settle" => options_of(options),
+            "settle" => settling_by(options),
             _ => None,
         },
         _ => None,

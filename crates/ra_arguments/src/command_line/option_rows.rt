@@ -2,6 +2,7 @@
 ghost use Rattle.std.specs.Prelude.{◌≡◌, map, false};
 ghost use Rattle.clap.specs.Words.{rule_of};
 ghost use Rattle.ra_arguments.specs.OptionTable.{AreOfCommand, rule_of_row};
+ghost use Rattle.ra_arguments.specs.SettleArguments as spec;
 
 use crate::command_line::command_rows::{CommandKind, all_rows};
 use clap::builder::ValueParser;
@@ -290,6 +291,18 @@ impl<'a> OptionRow<'a> {
         self.name
     }
 
+    /// Returns whether an argument is the option, and it takes nothing and is not help. It does not allocate.
+    fn is_flag(&self, argument: &str) -> bool
+        ensures { result ≡ spec.is_flag argument.now (rule_of_row self.now) }
+    {
+        match argument.as_bytes().strip_prefix(b"--") {
+            Some(name) => {
+                matches!(self.action, ArgAction::SetTrue) && name == self.name.as_bytes()
+            }
+            None => false,
+        }
+    }
+
     /// Returns what there is to say of the option if it is given and has no effect under this policy, or `None` if it
     /// has one. It does not allocate.
     pub fn unused_under(&self, policy: &str) -> Option<&'a str> {
@@ -305,6 +318,18 @@ impl<'a> OptionRow<'a> {
 /// Returns the options of the command `sim`, in the order of help. It does not allocate.
 pub fn sim_options() -> &'static [OptionRow<'static>] {
     options_of(CommandKind::Sim)
+}
+
+/// Returns whether an argument is one of these options that takes nothing and is not help. It does not allocate.
+pub fn is_flag_among(rows: &[OptionRow<'_>], argument: &str) -> bool
+    ensures { result ≡ spec.is_flag_among (map rule_of_row rows.now) argument.now }
+{
+    for row in rows {
+        if row.is_flag(argument) {
+            return true;
+        }
+    }
+    false
 }
 
 /// Returns which values the option takes that an argument names, or `None` if it names none that takes a value. No two

@@ -2,14 +2,14 @@ use Rattle.std.proofs.Common.{map, string_bytes, refl, sym, ◌∙◌}
 use Rattle.std.proofs.lemmas.Bool.{false≢true}
 use Rattle.ra_arguments.proofs.Asking.{nothing_asked}
 use Rattle.ra_arguments.proofs.OneCommand.{sim_alone_asks}
-use Rattle.ra_arguments.proofs.Settling.{none_asked}
+use Rattle.ra_arguments.proofs.SettleArguments.{none_asked}
 use Rattle.ra_arguments.proofs.command.read_command_line.Goals as goal
 
 pub returns-then-is_command_alone-clause-asks : goal.returns-then-is_command_alone-clause-asks
 returns-then-is_command_alone-clause-asks c = c.is_command_alone.ensures.0 c.if-is_command_alone.true
 
 pub returns-in-Some-clause-asks : goal.returns-in-Some-clause-asks
-returns-in-Some-clause-asks c = c.in-Some.ensures
+returns-in-Some-clause-asks c = sym c.in-Some.ensures
 
 pub returns-then-is_command_alone-2-clause-asks : goal.returns-then-is_command_alone-2-clause-asks
 returns-then-is_command_alone-2-clause-asks c = (
