@@ -27,3 +27,6 @@ pub mod MarkRefusals
 pub mod MarkVerdicts
 pub mod MarkInputs
 pub mod MarksAlong
+pub mod Following
+pub mod MarksFollowing
+pub mod TraceFollowing

@@ -50,12 +50,12 @@ nothing_over rest none (before, byte, opened, is, how) =
     some_bytes before byte [] (append-nil (before ++ byte ∷ []) ∙ (sym is ∙ none))
 
 -- what was read is all of a known input, if the marks are a run
-record AllRead (limit : ℕ) (input : List ℕ) (new : Option (List ℕ)) (marks : List Mark) : Type 0 where
-  input_is : input ≡ marks_text marks
-  at_most : length input ≤ limit
-  taken : Consumes (Some input) new input
+pub record AllRead (limit : ℕ) (input : List ℕ) (new : Option (List ℕ)) (marks : List Mark) : Type 0 where
+  pub input_is : input ≡ marks_text marks
+  pub at_most : length input ≤ limit
+  pub taken : Consumes (Some input) new input
 
-all_read : (limit : ℕ) (input : List ℕ) (new : Option (List ℕ)) (requests grants : ℕ)
+pub all_read : (limit : ℕ) (input : List ℕ) (new : Option (List ℕ)) (requests grants : ℕ)
     → (j : JudgesMarks limit (Some input) new (Valid requests grants)) → AllRead limit input new j.0
 all_read limit input None requests grants (marks, rest, read, how, shows) = absurd read.taken
 all_read limit input (Some left) requests grants (marks, rest, read, how, shows) =

@@ -1,13 +1,13 @@
 -- How far a checker has come in a mark log.
 use Rattle.std.proofs.Common.{◌≡◌, ◌≢◌, ℕ, ◌+◌, ◌-◌, ◌≤◌, List, [], ◌∷◌, ◌++◌, length, All, Option, refl, sym, ap, ◌∙◌, subst, inl, inr, arith, length-append, codes}
-use Rattle.std.specs.Prelude.{Result, Ok, Err, IfOk}
-use Rattle.std.specs.Io.KnownBytes.{Consumes}
+use Rattle.std.specs.Prelude.{◌⊎◌, Some, None, Result, Ok, Err, IfOk}
+use Rattle.std.specs.Io.KnownBytes.{Consumes, IsAtEnd}
 use Rattle.std.proofs.lemmas.List.{nil_from_length}
 use Rattle.std.proofs.lemmas.List.Elements.{All-nil, All-cons, All-head, All-tail}
 use Rattle.std.proofs.lemmas.Grind.{flat_map-append}
 use Rattle.ra_stamp.specs.declared.entry.Mark.{Mark}
 use Rattle.ra_stamp.specs.declared.entry.Mark.TheVariants.{Requested, Entered, Left, Withdrawn}
-use Rattle.ra_table.specs.Table.{empty_table}
+use Rattle.ra_table.specs.Table.{empty_table, TableRun}
 use Rattle.ra_table.specs.Laws.{AllowsMark}
 use Rattle.ra_text.specs.Lines.{entry_fields, mark_line}
 use Rattle.ra_world.specs.Quiet.{requests_in}
@@ -24,14 +24,16 @@ use Rattle.ra_trace.specs.declared.mark_log.marks_verdict.MarksVerdict.TheVarian
 use Rattle.ra_trace.specs.declared.line_source.byte_lines.LineEnd.TheVariants.{Feed}
 use Rattle.ra_trace.specs.declared.line.version.Version.TheVariants.{Three}
 use Rattle.ra_trace.specs.Forms.{BeginsReadable}
-use Rattle.ra_trace.specs.NextLine.{EndsSo, TakesBytes, FailsWithin, HasNone}
+use Rattle.ra_trace.specs.Reading.{IsOpenLine}
+use Rattle.ra_trace.specs.NextLine.{EndsSo, TakesBytes, FailsWithin, HasNone, IsOverLine}
 use Rattle.ra_trace.specs.TraceText.{IsMarkLine}
 use Rattle.ra_trace.specs.Marks.{marks_text, grants_in, IsMarkRun, TableRefuses}
-use Rattle.ra_trace.specs.MarksReading.{HasReadMarks, JudgesMarks, StopsAfterMarks, AnswersMarks}
-use Rattle.ra_trace.specs.MarksAlong.{TableLaws, TakesMark, IsLogOf, IsAlongMarks, JudgedMark, JudgedOther, JudgedLine, IsMissing, TurnsMarks, SomeMarkTaken}
+use Rattle.ra_trace.specs.MarksReading.{HasReadMarks, ShowsMarks, JudgesMarks, StopsAfterMarks, AnswersMarks}
+use Rattle.ra_trace.specs.MarksAlong.{TableLaws, TakesMark, IsLogOf, IsAlongMarks, JudgedMark, JudgedOther, JudgedLine, IsMissing, HasLinesBefore, TurnsMarks, SomeMarkTaken}
 use Rattle.ra_trace.proofs.Along.{consumed_both, nothing_taken}
 use Rattle.ra_trace.proofs.Ends.{feed_is_over, some_bytes_at_feed}
 use Rattle.ra_trace.proofs.Lines.{begins_once}
+use Rattle.ra_trace.proofs.MarkInputs.{all_read}
 
 -- ---- Counts
 
@@ -137,18 +139,24 @@ none_there limit left old now new log number bytes along taken none some = (
   (along.number_is, inl (refl, some, λ mark rest begins. none.0 (line.Marked mark) rest begins)),
 )
 
+-- at the end of a known input, so many lines came
+lines_before : (limit : ℕ) (old new : Option (List ℕ)) (requests grants : ℕ) (marks : List Mark) (rest : List ℕ) (number : ℕ)
+    → HasReadMarks limit old new marks rest → (IsOverLine rest ⊎ (IsOpenLine rest × IsAtEnd new)) → ShowsMarks marks rest (Valid requests grants)
+    → number ≡ length marks + 1 → HasLinesBefore old number
+lines_before limit None new requests grants marks rest number read how shows is = tt
+lines_before limit (Some input) new requests grants marks rest number read how shows is =
+    (marks, read.run, (all_read limit input new requests grants (marks, rest, read, how, shows)).input_is, is)
+
 -- nothing comes next
 pub end_there : (limit left : ℕ) (old now new : Option (List ℕ)) (log : MarkLog) (number : ℕ) (bytes : List ℕ)
     → IsAlongMarks limit left old now log number → TakesBytes left now new bytes → HasNone bytes new → bytes ≡ []
-    → JudgesMarks limit old new (Valid log.requests log.grants)
+    → JudgesMarks limit old new (Valid log.requests log.grants) × HasLinesBefore old number
 end_there limit left old now new log number bytes along taken none nothing =
-    let so_far = along.so_far in (
-      along.marks,
-      bytes,
-      has_read limit left old now new log number bytes along taken.0 taken.1,
-      none.1,
-      (nothing, so_far.requests_is, so_far.grants_is),
-    )
+    let so_far = along.so_far in
+    let read = has_read limit left old now new log number bytes along taken.0 taken.1 in
+    let judges : JudgesMarks limit old new (Valid log.requests log.grants) =
+    (along.marks, bytes, read, none.1, (nothing, so_far.requests_is, so_far.grants_is)) in
+    (judges, lines_before limit old new log.requests log.grants along.marks bytes number read none.1 (nothing, so_far.requests_is, so_far.grants_is) along.number_is)
 
 some_at_feed : (bytes : List ℕ) (new : Option (List ℕ)) → EndsSo Feed bytes new → bytes ≢ []
 some_at_feed bytes new ended = λ none. let some = some_bytes_at_feed bytes new ended in absurd (omega (arith, some, ap length none))
@@ -302,6 +310,26 @@ pub none_taken : (left count : ℕ) (next : MarkJudgement) → IsMissing count n
 none_taken left count Right is = absurd is
 none_taken left count End is = tt
 none_taken left count (Wrong why) is = tt
+
+-- nothing was taken yet
+pub begins_log : TableLaws → (limit : ℕ) (old : Option (List ℕ)) (log : MarkLog) → log ≡ record { table = empty_table; requests = 0; grants = 0 }
+    → IsAlongMarks limit limit old old log 1
+begins_log laws limit old log is = record {
+  marks = [];
+  taken = nothing_taken old;
+  room = omega arith;
+  number_is = omega arith;
+  so_far = record {
+    lines = All-nil (IsMarkLine Three);
+    run = subst (λ (l : MarkLog). TableRun [] l.table) (sym is) laws.empty;
+    requests_is = ap (λ (l : MarkLog). l.requests) is;
+    grants_is = ap (λ (l : MarkLog). l.grants) is;
+  };
+}
+
+-- lines are counted from 1
+pub some_number : (limit left : ℕ) (old now : Option (List ℕ)) (log : MarkLog) (number : ℕ) → IsAlongMarks limit left old now log number → 1 ≤ number
+some_number limit left old now log number along = omega (arith, along.number_is)
 
 -- there is no memory for a log
 pub no_log : TableLaws → (limit : ℕ) (old : Option (List ℕ)) → StopsAfterMarks limit old old

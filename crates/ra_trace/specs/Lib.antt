@@ -15,3 +15,5 @@ pub mod Marks
 pub mod MarksReading
 pub mod Check
 pub mod MarksAlong
+pub mod Following
+pub mod FollowingAlong

@@ -1,5 +1,5 @@
 -- How far a checker has come in a mark log. No public contract speaks of it.
-use Rattle.std.specs.Prelude.{◌≡◌, ◌≢◌, ◌↔◌, ℕ, ◌+◌, ◌-◌, ◌≤◌, List, [], ◌∷◌, ◌++◌, All, Option, Result, Ok, Err, length}
+use Rattle.std.specs.Prelude.{◌≡◌, ◌≢◌, ◌↔◌, ℕ, ◌+◌, ◌-◌, ◌≤◌, List, [], ◌∷◌, ◌++◌, All, Option, Result, Ok, Err, length, IfSome}
 use Rattle.std.specs.Io.KnownBytes.{Consumes}
 use Rattle.ra_stamp.specs.declared.entry.Mark.{Mark}
 use Rattle.ra_table.specs.Table.{LockTable, empty_table, TableStep, TableSteps, TableRun}
@@ -16,7 +16,7 @@ use Rattle.ra_trace.specs.declared.mark_log.marks_verdict.MarkCause.TheVariants 
 use Rattle.ra_trace.specs.declared.mark_log.marks_verdict.MarksVerdict.TheVariants.{Valid, Invalid}
 use Rattle.ra_trace.specs.declared.line.version.Version.TheVariants.{Three}
 use Rattle.ra_trace.specs.TraceText.{IsMarkLine}
-use Rattle.ra_trace.specs.Marks.{marks_text, grants_in, TableRefuses}
+use Rattle.ra_trace.specs.Marks.{marks_text, grants_in, IsMarkRun, TableRefuses}
 use Rattle.ra_trace.specs.MarksReading.{JudgesMarks, AnswersMarks}
 
 -- the laws of the lock table that mark logs depend on
@@ -79,6 +79,11 @@ IsMissing count Right = ⊥
 IsMissing count End = count ≡ 0
 IsMissing count (Wrong why) = (why ≡ cause.Line) × (count ≢ 0)
 
+-- the input, if it is known, is the lines of a run of the lock table, and a line after them would have this number
+abbrev pub HasLinesBefore : Option (List ℕ) → ℕ → Type 0
+HasLinesBefore old number = IfSome old (λ input.
+    (marks : List Mark) × IsMarkRun marks × (input ≡ marks_text marks) × (number ≡ length marks + 1))
+
 -- what happens at the line with this number, of this many bytes: the log has taken it, or the text is at its end, or
 -- the line is wrong, or a fault occurred
 abbrev pub TurnsMarks : ℕ → ℕ → Option (List ℕ) → Option (List ℕ) → MarkLog → ℕ → ℕ → Result MarkJudgement TraceError
@@ -86,7 +91,7 @@ abbrev pub TurnsMarks : ℕ → ℕ → Option (List ℕ) → Option (List ℕ) 
 TurnsMarks limit left old new after number count (Ok Right) =
     IsAlongMarks limit (left - count) old new after (number + 1)
 TurnsMarks limit left old new after number count (Ok End) =
-    JudgesMarks limit old new (Valid after.requests after.grants)
+    JudgesMarks limit old new (Valid after.requests after.grants) × HasLinesBefore old number
 TurnsMarks limit left old new after number count (Ok (Wrong why)) = JudgesMarks limit old new (Invalid number why)
 TurnsMarks limit left old new after number count (Err fault) = AnswersMarks limit old new (Err fault)
 

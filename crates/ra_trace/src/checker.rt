@@ -1,4 +1,5 @@
 pub mod check_text;
+pub mod trace_watcher;
 pub mod verdict;
 
 ghost use Rattle.std.specs.Prelude.{◌≡◌, ◌≢◌, ◌<◌, ◌+◌, ◌^◌, ◌⊎◌, List, ◌∷◌, [], Ok, Some, false, drop, length, slice_get, IfOk, IfErr, IfSome, IsNone, IsTrue};

@@ -1,5 +1,7 @@
 //! Mark logs: whether what any lock service wrote down is a run of the lock table.
+pub mod follow;
 pub mod marks_verdict;
+pub mod marks_watcher;
 
 ghost use Rattle.std.specs.Prelude.{◌≡◌, ◌↔◌, ◌<◌, ◌≤◌, ◌+◌, ◌∷◌, [], ℕ, List, Option, IfOk, IfErr, IfSome, IsErrOf};
 ghost use Rattle.std.specs.Io.KnownBytes.{Consumes};
@@ -14,7 +16,7 @@ use crate::line::Line;
 use crate::line_source::{ByBytes, FromBuffer, LineRoom, LineSource};
 use crate::marked_table::try_mark;
 use crate::text_limits::MAX_TEXT;
-use crate::{MarkCause, MarksVerdict, TraceError};
+use crate::{MarkCause, MarksSoFar, MarksVerdict, TraceError};
 use ra_stamp::Mark;
 use ra_table::Table;
 use std::alloc::Global;
@@ -40,14 +42,37 @@ enum MarkJudgement {
 }
 
 impl MarkLog {
+    /// Makes the log that has taken no line, over the table in which nothing waits or holds.
+    fn new(table: Table) -> MarkLog
+        ensures { result ≡ record { table = table; requests = 0; grants = 0 } }
+    {
+        MarkLog {
+            table,
+            requests: 0,
+            grants: 0,
+        }
+    }
+
+    /// Returns what its lines, so many, come to.
+    #[inline(always)]
+    fn so_far(&self, lines: u64) -> MarksSoFar
+        ensures { result ≡ record { lines = lines; requests = self.now.requests; grants = self.now.grants } }
+    {
+        MarksSoFar {
+            lines,
+            requests: self.requests,
+            grants: self.grants,
+        }
+    }
+
     /// Takes the next line, and says what it is. After a wrong mark, or without memory, nothing is promised of the log.
     ///
     /// # Errors
     ///
     /// `Memory`: memory ran out.
     fn take_line(&mut self, line: &Line) -> Result<MarkJudgement, TraceError>
-        requires requests { self.old.requests < 16777217 }
-        requires grants { self.old.grants < 16777217 }
+        requires requests { self.old.requests < 9223372036854775809 }
+        requires grants { self.old.grants < 9223372036854775809 }
         ensures { JudgedLine self.old line.now self.new result }
     {
         let Line::Marked(mark) = line else {
@@ -82,8 +107,8 @@ fn take_next<R: Read, S: LineSource<R>>(
     log: &mut MarkLog,
     left: usize,
 ) -> Result<MarkJudgement, TraceError>
-    requires requests { log.old.requests < 16777217 }
-    requires grants { log.old.grants < 16777217 }
+    requires requests { log.old.requests < 9223372036854775809 }
+    requires grants { log.old.grants < 9223372036854775809 }
     ensures turned { (limit number : ℕ) (old : Option (List ℕ))
         → IsAlongMarks limit left old (R.remaining reader.old) log.old number
         → TurnsMarks limit left old (R.remaining reader.new) log.new number taken.new result }

@@ -1,3 +1,5 @@
+pub mod follow;
+
 ghost use Rattle.std.specs.Prelude.{◌≡◌, ◌≤◌, ◌-◌, ℕ, List, Option, IfOk};
 ghost use Rattle.ra_trace.specs.Due.{TellsDue};
 ghost use Rattle.ra_trace.specs.declared.checker.Judgement.{Judgement};

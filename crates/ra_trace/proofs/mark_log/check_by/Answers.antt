@@ -53,4 +53,4 @@ returns-in-End g c =
     let log = c.take_next.new.log in
     checked c.args.limit old (g.R.Read.remaining c.take_next.new.reader) (one_verdict mark_logs_rest_on_tables)
     (Ok (Valid log.requests log.grants))
-    (rw c.in-End.is at (c.in-Ok-take_next.ensures.turned c.args.limit c.loop-next.line old c.loop-next.invariant.along))
+    (rw c.in-End.is at (c.in-Ok-take_next.ensures.turned c.args.limit c.loop-next.line old c.loop-next.invariant.along)).0
