@@ -5,3 +5,4 @@ pub mod Calls
 pub mod Outcome
 pub mod File
 pub mod Handle
+pub mod Opening

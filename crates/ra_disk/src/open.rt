@@ -1,5 +1,6 @@
 ghost use Rattle.std.specs.Prelude.{◌≡◌, true, IfOk};
 ghost use Rattle.ra_disk.specs.File.{is_unread_file};
+ghost use Rattle.ra_disk.specs.Opening.{IsCauseOfCall, IsCauseOfLock};
 
 use crate::DiskFile;
 use std::fs::{self, File, OpenOptions, TryLockError};
@@ -19,6 +20,8 @@ pub enum OpenError {
 }
 
 impl From<io::Error> for OpenError {
+    ghost from_gives = { IsCauseOfCall };
+
     fn from(error: io::Error) -> OpenError {
         match error.kind() {
             io::ErrorKind::OutOfMemory => OpenError::Memory,
@@ -28,6 +31,8 @@ impl From<io::Error> for OpenError {
 }
 
 impl From<TryLockError> for OpenError {
+    ghost from_gives = { IsCauseOfLock };
+
     fn from(error: TryLockError) -> OpenError {
         match error {
             TryLockError::WouldBlock => OpenError::Busy,
