@@ -12,7 +12,7 @@ use Rattle.ra_automaton.specs.NodeSet.{map_of}
 use Rattle.ra_automaton.proofs.Apart.{tied, untied, cases_same}
 use Rattle.ra_automaton.proofs.Ranges.{found_inside, found_outside, sorted}
 
--- each node of a set has one of so many places
+-- each node of a set has one of this many places
 abbrev pub HavePlaces : finset.FinSet nat_cmp → ℕ → Type 0
 HavePlaces nodes room = (q : ℕ) → finset.contains nodes q ≡ true → (1 ≤ q) × (q ≤ room)
 

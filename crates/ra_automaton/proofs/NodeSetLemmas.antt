@@ -129,7 +129,7 @@ zero_from_empty word fits none =
 one_less : (a b c : ℕ) → b ≡ suc c → suc a * b - 1 ≡ a * b + c
 one_less a b c is = grind (arith, suc-mul)
 
--- of a word in which all bits are set, shifted down, as many bits are set as are left
+-- a word in which all bits are set, shifted down, has as many bits set as are left
 pub shr_ones : (n m : ℕ) → (2 ^ (n + m) - 1) / 2 ^ m ≡ 2 ^ n - 1
 shr_ones n m =
     ap (λ (power : ℕ). (power - 1) / 2 ^ m) (pow-add 2 n m ∙ ap (λ (power : ℕ). power * 2 ^ m) (sym (suc_ones n)))

@@ -128,7 +128,7 @@ sorted_from p v first (suc n) =
 pub sorted : (p : ℕ → Bool) (v : ℕ → ℕ) (first n : ℕ) → T (finmap.is_sorted nat_cmp (map (λ node. (node, v node)) (filter p (range_with_len first n))))
 sorted p v first n = subst T (sym (sorted_from p v first n)) tt
 
--- ---- A longer range, in which no more pass
+-- ---- A longer range in which no further element passes
 
 pub filter-longer : (p : ℕ → Bool) (first n more : ℕ) → n ≤ more → ((q : ℕ) → first + n ≤ q → q < first + more → p q ≡ false) → filter p (range_with_len first more) ≡ filter p (range_with_len first n)
 filter-longer p first zero zero le none = refl

@@ -12,7 +12,7 @@ use Rattle.std.specs.FinMap as finmap
 unfoldable pub bits_of_a_word : ℕ
 bits_of_a_word = 64
 
--- whether the bit of a node is set: that of node i is bit i - 1
+-- whether the bit of a node is set: node i has bit i - 1
 abbrev pub has_bit : ℕ → ℕ → Bool
 has_bit word node = bit_at word (node - 1) == 1
 
@@ -24,7 +24,7 @@ nodes_of word = filter (has_bit word) (range_with_len 1 bits_of_a_word)
 abbrev pub set_of : ℕ → set.FinSet nat_cmp
 set_of word = set.from_list (nodes_of word)
 
--- the nodes of a set, each with its number: that of node i is at place i - 1 of the list
+-- the nodes of a set, each with its number: the number of node i is at place i - 1 of the list
 abbrev pub map_of : set.FinSet nat_cmp → List ℕ → finmap.FinMap nat_cmp ℕ
 map_of nodes numbers =
     finmap.from_sorted (map (λ node. (node, slice_index numbers (node - 1)))

@@ -77,7 +77,7 @@ OwnGoesFirst Idle me other number wanted = ⊥
 OwnGoesFirst (Waiting seq mode) me other number wanted = GoesFirst me seq mode other number wanted
 OwnGoesFirst (Inside seq mode) me other number wanted = GoesFirst me seq mode other number wanted
 
--- the number with which a node is deferred: of two requests of one node the greater number counts
+-- the number with which a node is deferred: the greater one, if two requests of the node are deferred
 abbrev pub later_of : Option ℕ → ℕ → ℕ
 later_of None number = number
 later_of (Some before) number = max before number

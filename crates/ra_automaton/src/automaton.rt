@@ -378,7 +378,7 @@ impl Automaton {
         Ok(sends)
     }
 
-    /// Defers the REPLY to another node. Of two requests of one node the greater number counts.
+    /// Defers the REPLY to another node. If two requests of that node are deferred, the greater number counts.
     fn defer(&mut self, other: NodeId, seq: u64)
         requires other { IsOther self.old other }
         requires busy { self.old.phase ≢ Phase.Idle }

@@ -421,7 +421,7 @@ pub enum PhaseKind {
 }
 
 /// Returns what a REPLY leads to. That depends on the phase of the node, on whether the REPLY has the number of its
-/// request, on whether it awaits the sender, and on whether it awaits others too.
+/// request, on whether it awaits the sender, and on whether it awaits others, too.
 pub fn effect_of_reply(phase: PhaseKind, numbered: bool, awaited: bool, others: bool) -> Effect
     ensures enter { result ≡ Effect.Enter
         → (phase ≡ PhaseKind.Waiting) × (numbered ≡ true) × (awaited ≡ true) × (others ≡ false) }

@@ -33,7 +33,7 @@ impl Model for Deferrals {
 }
 
 impl Deferrals {
-    /// Makes the deferrals of a node that defers nobody and has no room. It does not allocate.
+    /// Makes the deferrals of a node that defers no REPLY and has no room. It does not allocate.
     #[inline(always)]
     pub fn none(alloc: Global) -> Deferrals
         ensures { result ≡ nobody_of 0 }
@@ -44,7 +44,7 @@ impl Deferrals {
         }
     }
 
-    /// Makes the deferrals of a member that defers nobody, with room for each node of its cluster.
+    /// Makes the deferrals of a member that defers no REPLY, with room for each node of its cluster.
     ///
     /// # Errors
     ///
