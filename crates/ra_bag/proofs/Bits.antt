@@ -184,7 +184,7 @@ half [] = refl
 half (None ∷ slots) = omega arith
 half (Some m ∷ slots) = omega arith
 
--- so many messages are before the next slot
+-- this many messages are before the next slot
 pub so_many : (slots : List (Option Message)) (i n : ℕ) → length (messages_in (take (i + n) slots)) ≡ length (messages_in (take i slots)) + length (messages_in (take n (drop i slots)))
 so_many slots i n =
     ap (λ (l : List (Option Message)). length (messages_in l)) (take-add i n slots) ∙ ap length (in_both (take i slots) (take n (drop i slots)))
@@ -397,6 +397,6 @@ module _ (filled : Filled) (slots : List (Option Message)) (shown : IsShown fill
         ap length (gone_none filled.gone slots),
       )
 
--- no bits are those of no slots
+-- no slots have no bits
 pub none_shown : (filled : Filled) → filled.words.items ≡ [] → filled.gone ≡ 0 → IsShown filled []
 none_shown filled words gone = (omega (arith, gone), rw (words, gone))

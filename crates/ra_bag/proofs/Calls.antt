@@ -77,7 +77,7 @@ module _ {Q : Type 0} (items : Q → List ℕ) (old new : Option Q) (next : Opti
 pub not_none : {A : Type 0} (found : Option A) (x : A) → found ≡ Some x → found ≢ None
 not_none found x is none = cc
 
--- the queue that is there has the number after the others
+-- the queue that exists has the number after the others
 pub later_added : {Q : Type 0} (items : Q → List ℕ) (new : Option Q) (all : List ℕ) → new ≢ None → IfSome new (λ queue. items queue ≡ all) → later_numbers items new ≡ all
 later_added items None all some is = absurd (some refl)
 later_added items (Some queue) all some is = is

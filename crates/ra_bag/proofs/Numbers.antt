@@ -96,7 +96,7 @@ module _ (test : Message → Bool) where
       by false fails again (suc k) lt is =
           again (sym (ap (λ b. cond b (first ∷ numbers_of test (first + 1) slots) (numbers_of test (first + 1) slots)) fails) ∙ e) k (omega (arith, lt)) is
 
-  -- the first number is that of a slot that passes, and none before it does
+  -- the first number belongs to a slot that passes, and no slot before it passes
   pub first_number : (first : ℕ) (slots : List (Option Message)) (number : ℕ) (rest : List ℕ) (d : Message) → numbers_of test first slots ≡ number ∷ rest
       → (i : ℕ) × (number ≡ first + i) × (i < length slots) × (x : Message) × (get_or slots i (Some d) ≡ Some x) × (test x ≡ true)
       × ((k : ℕ) (y : Message) → k < i → get_or slots k (Some d) ≡ Some y → test y ≡ false)

@@ -91,7 +91,7 @@ module _ (eq : Message → Message → Bool) (exact : (a b : Message) → IsTrue
       (sym (other_taken (eq q) old.first i slots m (apart m q differ) there.0 there.1) ∙ ap (λ f. numbers_of (eq q) f (set slots i None)) (sym unlearns.0))
       (unlearns.1 q (numbers_of (eq q) old.first slots) differ (tells q)))
 
-  -- the number that is kept for a message is that of the first slot that has it
+  -- the number that is kept for a message is the number of the first slot that has it
   pub first_told : (places : Places) (slots : List (Option Message)) (m : Message) (number i : ℕ) → lookup (eq m) places.numbers.entries ≡ Some number → number ≡ places.first + i
       → Tells eq places slots → IsFirstSlot slots m i
   first_told places slots m number i found is tells =
@@ -112,7 +112,7 @@ module _ (eq : Message → Message → Bool) (exact : (a b : Message) → IsTrue
       (subst (λ (o : Option ℕ). AreKept (λ q. q.items) o (lookup (eq m) places.later.entries) (numbers_of (eq m) places.first slots)) none (tells m)))
       there
 
-  -- no number that is kept is below that of the first slot
+  -- no number that is kept is below the first slot's
   pub number_told : (places : Places) (slots : List (Option Message)) (m : Message) (number : ℕ) → lookup (eq m) places.numbers.entries ≡ Some number → number < places.first
       → Tells eq places slots → ⊥
   number_told places slots m number found less tells =

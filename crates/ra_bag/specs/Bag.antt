@@ -19,7 +19,7 @@ TakesOne old message new = (place : ℕ) × (place < length old) × (slice_index
 abbrev pub TakesAt : List Message → ℕ → List Message → Type 0
 TakesAt old place new = new ≡ remove old place
 
--- ---- How a bag is kept: in slots, some of which are empty
+-- ---- How a bag is kept: in slots that may be empty
 
 -- this slot contains the message
 abbrev pub StandsIn : List (Option Message) → Message → ℕ → Type 0

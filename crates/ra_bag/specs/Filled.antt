@@ -10,7 +10,7 @@ abbrev pub AreBits : List ℕ → List (Option Message) → Type 0
 AreBits [] slots = slots ≡ []
 AreBits (word ∷ words) slots = (word ≡ mask_l (map is_some (take 64 slots))) × AreBits words (drop 64 slots)
 
--- the words have the bits of the slots, after those of the slots that are gone
+-- the words have the bits of the slots, after the bits of the slots that are gone
 abbrev pub IsShown : Filled → List (Option Message) → Type 0
 IsShown filled slots = (filled.gone < 64) × AreBits filled.words.items (replicate filled.gone None ++ slots)
 

@@ -31,7 +31,7 @@ pub struct Bag {
     places: Places,
     /// Which slots have a message, to find the one at a place.
     filled: Filled,
-    /// The slot before that of the message which was taken last after it was found, where the next one is looked for.
+    /// The slot before that of the last message that was taken after it was found. The next one is looked for here.
     /// No clause relies on it.
     beside: usize,
 }
@@ -55,7 +55,7 @@ impl Model for Bag {
 }
 
 impl Bag {
-    /// Makes the bag in which nothing is under way. It allocates from `alloc` as it grows.
+    /// Makes the bag with nothing under way. It allocates from `alloc` as it grows.
     ///
     /// # Errors
     ///
@@ -243,11 +243,12 @@ impl Bag {
     /// is equal, and otherwise the first equal one. If it was found in a slot, it may be any equal one. It does not
     /// allocate.
     ///
-    /// If the message is where it was found, the cost is that of `at` for a place, and that of removing it. Removing
+    /// If the message is where it was found, the cost is that of `at` for a place, plus that of removing it. Removing
     /// takes amortized constant time if the message is at an end, or if the bag keeps a bit for each slot. It learns
-    /// these bits after a message was taken from between more than 1,024, or looked for among more than 64. Otherwise
-    /// removing takes time linear in the distance from the nearer end. If the message is not the first of equal ones,
-    /// the bag has to learn anew in which slot each message is. If it is not there, the cost is that of `take`.
+    /// these bits after a message was taken from between more than 1,024 others, or looked for among more than 64.
+    /// Otherwise removing takes time linear in the distance from the nearer end. If the message is not the first of
+    /// equal ones, the bag has to learn anew in which slot each message is. If it is not there, the cost is that of
+    /// `take`.
     #[inline(always)]
     pub fn take_from(&mut self, found: Found, message: &Message)
         requires { Contains self.old.items message.now }

@@ -152,7 +152,7 @@ impl Filled {
         Ok(())
     }
 
-    /// Adds the bit of one more slot, after this many others.
+    /// Adds the bit of the next slot, after this many others.
     ///
     /// # Errors
     ///

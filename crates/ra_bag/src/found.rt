@@ -1,11 +1,11 @@
-//! Where a bag has a message.
+//! The place of a message in a bag.
 
-/// Where a message was found.
+/// The place where a message was found.
 #[derive(Clone, Copy, Debug, PartialEq, Eq)]
 pub enum Found {
     /// At this place, counted from 0 in the order of sending.
     At(u64),
-    /// In this slot of the bag. No clause says which number a slot has, so `take_from` checks that the message is
-    /// there.
+    /// In this slot of the bag. No clause says which number a slot has, so `take_from` checks that the slot has the
+    /// message.
     In(u64),
 }

@@ -27,7 +27,7 @@ pub struct Places {
     first: u64,
     /// Whether a message was looked for among many while no slots were known.
     wanted: bool,
-    /// Where in `numbers` the message was that was found last, so that it is taken without being hashed again. No
+    /// The place in `numbers` of the message that was found last, so that it is taken without being hashed again. No
     /// clause relies on it.
     sought: usize,
 }
@@ -54,7 +54,7 @@ impl Places {
         !self.numbers.is_empty()
     }
 
-    /// Returns the first slot that has a message and where in `numbers` it is, or `None` if no slot has it. The slots
+    /// Returns the first slot that has a message and its place in `numbers`, or `None` if no slot has it. The slots
     /// of each message are known. It does not allocate.
     pub fn tell(&self, message: &Message) -> Option<(usize, usize)>
         requires { length self.now.numbers.entries ≢ 0 }

@@ -1,4 +1,4 @@
-//! Messages in slots, some of which may be empty.
+//! Messages in slots that may be empty.
 ghost use Rattle.std.specs.Prelude.{◌≡◌, ◌≢◌, ◌+◌, ◌-◌, ◌<◌, ◌≤◌, ◌↔◌, ◌∷◌, ◌++◌, length, map, take, drop, slice_index_or, slice_set, Contains, Some, None, IsNone, IsSome, IfSome, IsOk, OnOk, OnErr, IsTrue, ℕ};
 ghost use Rattle.std.specs.List.{filter, remove};
 ghost use Rattle.std.specs.Option.{is_some};

@@ -2,7 +2,7 @@ use Rattle.std.proofs.Common.{◌≡◌, ◌+◌, length, take}
 use Rattle.ra_bag.specs.Bag.{messages_in}
 use Rattle.ra_bag.proofs.slots.nth.Given as goal
 
--- so many messages are still before the one at the place
+-- this many messages are still before the one at the place
 abbrev pub invariant-loop-slot : goal.invariant-loop-slot
 invariant-loop-slot l =
     record {

@@ -30,7 +30,7 @@ returns-then-is_of-clause-found c =
 pub returns-then-is_of-clause-first : goal.returns-then-is_of-clause-first
 returns-then-is_of-clause-first c = c.loop-slot.invariant
 
--- ---- It is none
+-- ---- It is not one
 
 pub returns-clause-absent : goal.returns-clause-absent
 returns-clause-absent c = (λ _. nowhere c.args.slots.now c.loop-slot.slot (Some c.args.message.now) c.loop-slot-test.false c.loop-slot.invariant, λ _. refl)
