@@ -37,7 +37,7 @@ module _ (me nodes clock : ℕ) (bytes : List ℕ) where
       pub not_accepted : (e : BookError) → NotAccepted me nodes clock bytes e → IsAccepted me nodes clock bytes (Err e)
       not_accepted e why = record { accepted = tt; refused = why; one_text = one_text; no_fault = no_fault }
 
--- a frame that the node does not take, or for which no clock is left
+-- a frame that the node does not take, or that no clock is left for
 pub not_taken : (node : NodeState) (clock : ℕ) (bytes : List ℕ) (f : OneFrame) → IsFrameText bytes f → Fits f → (why : BookError) → why ≢ Memory
     → IsRefusedAfter node clock (Receive f) why → NotAccepted node.me node.nodes clock bytes why
 not_taken node clock bytes f text fits why other (inl (inl wrong)) =
@@ -86,7 +86,7 @@ module _ (book : BookState) (bytes : List ℕ) where
   module _ (none : book.fault ≡ None) (clock : ℕ) (clock_is : clock ≡ clock_of (whole_events book)) (r : Result (OneFrame × ℕ) BookError)
       (accepts : IsAccepted book.me book.nodes clock bytes r)
     where
-      -- the frame that is accepted is the one of which it is said
+      -- the accepted frame is the one about which this is said
       module _ {P : OneFrame → Type 0} (f : OneFrame) (text : IsFrameText bytes f) where
         reads_it : P f → ReadsFrame book bytes P
         reads_it p = record { no_fault = none; frame = f; text = text; holds = p }
@@ -189,7 +189,7 @@ module _ (book : BookState) (bytes : List ℕ) where
     allowed = (λ _. answers.allowed.0 tt, λ _. h);
   }
 
--- ---- Bytes that were read as a frame, for which a clock is left
+-- ---- Bytes that were read as a frame, if a clock is left for it
 
 -- what was decoded is the one frame of the bytes
 pub one_frame : (bytes : List ℕ) (r : Result OneFrame FrameError) (f : OneFrame) → r ≡ Ok f → IsFrameText bytes f → Fits f

@@ -1,4 +1,4 @@
--- A book with one more event, from what is kept of it.
+-- A book with another event, from what is kept of it.
 use Rattle.std.proofs.Common.{◌≡◌, ℕ, ◌+◌, ◌<◌, ◌≤◌, ◌^◌, false, List, [], ◌∷◌, ◌++◌, length, take, get_or, All, Result, Ok, Err, refl, sym, ap, ◌∙◌, subst, append_assoc, arith}
 use Rattle.std.specs.Prelude.{IsOk, OnOk}
 use Rattle.std.proofs.lemmas.List.{append-nil, map_more, map-append}
@@ -18,7 +18,7 @@ use Rattle.ra_book.specs.History.{node_event, frames_at}
 use Rattle.ra_book.specs.Book.{BookState, LeadsTo, HasClock, Adds, as_sent, next_clock, with_event}
 use Rattle.ra_book.specs.Keeping.{Keeps, IsForThisBook, ComesNext, Happens}
 
--- ---- What is kept if nothing but room changed
+-- ---- What is kept if only room changed
 
 pub same_kept : (book : BookState) (node node' : NodeState) (events : List BookEvent) (sent : List Sent) → Keeps book node
     → events ≡ book.events → sent ≡ book.sent → node' ≡ node → Keeps (record book { events = events; sent = sent }) node'
@@ -140,7 +140,7 @@ pub same_book : (now book : BookState) (events : List BookEvent) (sent : List Se
     → record book { events = events; sent = sent } ≡ now
 same_book now book events sent is events_are sent_are = (λ i. record book { events = events_are i; sent = sent_are i }) ∙ is
 
--- ---- What comes of an event at the node
+-- ---- The outcome of an event at the node
 
 -- a call that succeeds did what it does
 pub is_done : {T E : Type 0} (A : Type 0) (r : Result T E) → IsOk r → OnOk r A → A
@@ -178,7 +178,7 @@ module _ (clock : ℕ) where
       ap (λ (fs : List Frame). as_sent fs) (more_frames sends i message within at)
       ∙ map-append (λ (f : Frame). record { frame = f; lost = false }) (frames_at clock (take i sends)) (frame_at message ∷ [])
 
--- a list that has these items after the old ones has one more item
+-- a list that has these items after the old ones has another item
 one_put : {A : Type 0} (old now new some more : List A) (one : A) → now ≡ old ++ some → new ≡ now ++ one ∷ [] → more ≡ some ++ one ∷ [] → new ≡ old ++ more
 one_put old now new some more one before is more_is =
     is ∙ ap (λ (xs : List _). xs ++ one ∷ []) before ∙ append_assoc old some (one ∷ []) ∙ ap (λ (xs : List _). old ++ xs) (sym more_is)

@@ -31,7 +31,7 @@ ascend-cons frame frames rest zero (suc j) d le within = rest.0 j d (omega (arit
 ascend-cons frame frames rest (suc i) zero d le within = absurd (omega (arith, le))
 ascend-cons frame frames rest (suc i) (suc j) d le within = rest.1 i j d (omega (arith, le)) (omega (arith, within))
 
--- those of one event have its clock
+-- the frames of an event have its clock
 at_one_clock : (clock : ℕ) (sends : List Message) (frames : List Frame) → AscendFrom clock frames → AscendFrom clock (frames_at clock sends ++ frames)
 at_one_clock clock [] frames rest = rest
 at_one_clock clock (m ∷ ms) frames rest =

@@ -45,7 +45,7 @@ place_in {X} (x ∷ xs) ys (f ∷ prefix) z suffix e =
       | inr found ↦ inr (found.0, λ i. sym same i ∷ found.1 i, found.2)
     ]
 
--- a place of a list of values is that of a value
+-- a place in a list of values is the place of a value
 pub record Cut {X Y : Type 0} (f : X → Y) (xs : List X) (prefix : List Y) (y : Y) : Type 0 where
   pub before : List X
   pub this : X
@@ -158,7 +158,7 @@ module _ (books : List BookState) (placed : List Placed) (cluster : IsCluster bo
       let same : happens (k + 1) ≡ map happening_of found.0.leads.postings = ap (happened_in books histories) (omega arith) ∙ found.1 in
       ap sent_in same ∙ sent_of_book (get_or books k d) found.0
 
-  -- if moves in which that happened sent different messages, so did each book
+  -- if moves with these events sent different messages, so did each book
   pub each_different : (moves : List Move) → ((i : ℕ) → 1 ≤ i → i ≤ n → happened_at i moves ≡ happens i) → AreDifferent (sent_by moves) → All (λ b. AreDifferent (messages_of b)) books
   each_different moves happened different k d low =
       subst AreDifferent (ap sent_in (happened (k + 1) (omega arith) (omega (arith, low))) ∙ sent_there k d low) (different_at (k + 1) moves different)

@@ -31,7 +31,7 @@ not_apart xs r apart = apart r.first r.second r.item r.in_order r.within (r.firs
 -- ---- What is said of settling, clause by clause
 
 module _ (books : List BookState) (grants : List Grant) where
-  -- what comes of it
+  -- its outcome
   abbrev pub Whole : Result Settled SettleError → Type 0
   Whole r = MatchResult r (Settles books grants) (Refuses books grants)
 

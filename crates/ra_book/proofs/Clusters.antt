@@ -10,7 +10,7 @@ use Rattle.ra_book.specs.Book.{BookState, IsWhole}
 use Rattle.ra_book.specs.Settled.{IsCluster, start_of}
 use Rattle.ra_book.proofs.Merging.{number_at}
 
--- the book is that of the node with this place, of this many nodes and from this start, and nothing was taken from it
+-- the book belongs to the node with this place, of this many nodes and from this start, and nothing was taken from it
 abbrev pub IsMember : BookState → ℕ → ℕ → ℕ → Type 0
 IsMember b place count start = (b.me ≡ place + 1) × (b.nodes ≡ count) × (b.start ≡ start) × IsWhole b
 
@@ -22,7 +22,7 @@ pub start_is : (books : List BookState) (first : BookState) → slice_get books 
 start_is [] first is = absurd (none-some first is)
 start_is (b ∷ books) first is = sym (ap (λ (x : BookState). x.start) (same_Some b first is))
 
--- one more of them is
+-- another one of them does
 pub members_more : (books : List BookState) (start i : ℕ) (b : BookState) → AreMembers books start i → b ≡ get_or books i b → IsMember b i (length books) start → i < length books → AreMembers books start (i + 1)
 members_more books start i b before at here within k d low =
     elim (cases_lt k i) [

@@ -1,4 +1,4 @@
--- Events with copies: for which event a step stands, and which frames came before it.
+-- Events with copies: which event a step means, and which frames came before it.
 use Rattle.std.proofs.Common.{◌≡◌, ◌≢◌, ◌⊎◌, ℕ, ◌+◌, ◌≤◌, Bool, true, false, cond, List, [], ◌∷◌, ◌++◌, length, map, take, drop, get_or, refl, sym, ap, ◌∙◌, subst, arith, inl, inr}
 use Rattle.std.specs.Prelude.{All, Contains}
 use Rattle.std.specs.List.{flat_map}
@@ -27,7 +27,7 @@ step_for p = step_at p.node p.event.kind
 
 -- ---- Different frames with one message
 
--- the message is as often among those of the frames that were sent as there are different frames with it among them
+-- the message occurs in the sent frames as often as different frames with it are among them
 pub counted : (is : Message → Bool) (m : Message) → TellsApart is m → (fs sent : List Frame) → AreDifferent fs → All (λ f. f.message ≡ m) fs → All (Contains sent) fs
     → length fs ≤ times is (map (λ f. f.message) sent)
 counted is m tells [] sent different same among = omega arith
@@ -71,13 +71,13 @@ pub record Others (events : List Placed) (frame : Frame) (m : Message) (taken re
   pub came : All (λ f. ComesBy events f × (f.message ≡ m)) frames
   pub enough : taken ≤ repeated + length frames
 
--- among these, the event that a step of those with copies stands for, and what comes before it
+-- among these, the event that a step of the list with copies means, and what comes before it
 pub record PlaceOf (placed : List Placed) (prefix : List Step) (step : Step) : Type 0 where
   pub before : List Placed
   pub this : Placed
   pub after : List Placed
   pub parts : placed ≡ before ++ this ∷ after
-  -- the message that the step takes or repeats is that of a frame that comes by the event
+  -- the message that the step takes or repeats is the message of the frame that comes in the event
   pub touched : (m : Message) → Contains (taken_in step ++ repeated_in step) m → (frame : Frame) × Contains (frames_in this.event.kind) frame × (frame.message ≡ m)
   pub same_events : (i : ℕ) → flat_map (events_at i) prefix ≡ flat_map (events_at i) (steps_of before)
   pub others : (is : Message → Bool) (m : Message) → TellsApart is m → (frame : Frame) → Contains (frames_in this.event.kind) frame
@@ -153,7 +153,7 @@ comes_in placed before this after f parts at =
         ]
     in_parts (q ∷ before) (inr is) = Contains-append_right (frames_in q.event.kind) (frames_by (before ++ this ∷ after)) f (in_parts before (inr is))
 
--- an event by which no frame comes that comes again: if a frame with the message comes by it, it is one of the others
+-- an event that brings no frame that comes again: if it brings a frame with the message, the frame is one of the others
 last_time : (is : Message → Bool) (m : Message) → TellsApart is m → (frame : Frame) (p : Placed) (placed before : List Placed) (taken repeated : ℕ)
     → ((f : Frame) → ComesBy before f → ComesBy placed f) → ComesBy placed frame → All (λ f. ComesBy placed f → ⊥) (frames_in p.event.kind) → Others before frame m taken repeated
     → Others (p ∷ before) frame m (times is (taken_in (step_for p)) + taken) (times is (repeated_in (step_for p)) + repeated)
@@ -289,7 +289,7 @@ lost_with (p ∷ placed) all (copies, rest, are, before, more) =
     by_copies (inl (last, no_copy)) = ap (λ (cs : List Step). flat_map lost_in (cs ++ step_for p ∷ rest)) no_copy
     by_copies (inr (g, kind, later, copy)) = ap (λ (cs : List Step). flat_map lost_in (cs ++ step_for p ∷ rest)) copy
 
--- a step of those with copies is that of an event, or a repeat
+-- a step of the list with copies is an event's step, or a repeat
 pub all_with : (P : Step → Type 0) → ((m : Message) → P (Repeat m)) → (placed : List Placed) (all : List Step) → AreWithCopies placed all → All P (steps_of placed) → All P all
 all_with P copy [] all none each = subst (All P) (sym none) each
 all_with P copy (p ∷ placed) all (copies, rest, are, before, more) each =

@@ -1,4 +1,4 @@
--- Books to which frames came more than once: if each frame that came was sent and nothing was lost, the steps in the
+-- Books with frames that came more than once: if each frame that came was sent and nothing was lost, the steps in the
 -- settled order, with copies, are a run.
 use Rattle.std.proofs.Common.{◌≡◌, ◌≢◌, ℕ, ◌<◌, ◌≤◌, List, [], ◌∷◌, ◌++◌, map, length, get_or, take, sym, ap, ◌∙◌, subst, arith}
 use Rattle.std.specs.Prelude.{All, Contains}
@@ -38,8 +38,8 @@ module _ (books : List BookState) (placed : List Placed) (cluster : IsCluster bo
   abbrev first_frames : ℕ → List Placed → List Frame
   first_frames = frames_first books placed cluster histories order
 
-  -- a message that a step takes or repeats was put under way more often than it was taken: of each frame with it that came
-  -- before, all but the last time was repeated, and its sender sent it; and that of this step was sent, too
+  -- a message that a step takes or repeats was put under way more often than it was taken: each frame with it that came
+  -- before was sent, and repeated for each time but the last; and the frame of this step was sent, too
   left : (prefix : List Step) (step : Step) (suffix : List Step) → all ≡ prefix ++ step ∷ suffix → All (IsLeftBy n happens prefix) (taken_in step ++ repeated_in step)
   left prefix step suffix parts k d low =
       let m = get_or (taken_in step ++ repeated_in step) k d in

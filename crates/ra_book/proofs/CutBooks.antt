@@ -188,7 +188,7 @@ module _ (counts : ℕ → ℕ) where
       let rest = one_of_other xs ys more others (tail_of e) (omega (arith, few)) in
       (rest.0, λ i. sym (head_of e) i ∷ rest.1 i)
 
-  -- what is cut of books of which the pairs fit
+  -- what is cut from books whose pairs fit
   module _ (books : List BookState) (cluster : IsCluster books) (histories : All HasHistory books) (fit : PairsFit books) (no_more : NoMoreCame (map cut_of books)) where
     first_there : (k l : ℕ) (d e : BookState) → k < length books → l < length books → (get_or books k d).me ≢ (get_or books l e).me
         → AreFirstOf (come_from (get_or books l e).me (cut_of (get_or books k d))) (sent_to (get_or books k d).me (cut_of (get_or books l e)))

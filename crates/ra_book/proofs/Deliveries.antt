@@ -185,7 +185,7 @@ module _ (books : List BookState) (placed : List Placed) (cluster : IsCluster bo
             let same : found.0.leads.postings ≡ postings_in books histories (i - 1) = sym found.1 ∙ ap (postings_in books histories) (omega (arith, number, me)) in
             λ j. frames_of (take (many j) (same j))
 
-        -- the book has the frames that the node sent before, and then those of this clock or later ones
+        -- the book has the frames that the node sent before, and then the frames of this clock or later ones
         pub sent_before_and_later : (later : List Frame) × (map (λ s. s.frame) it.sent ≡ frames_first i prefix ++ later) × All (λ f. p.event.clock ≤ f.clock) later
         sent_before_and_later =
             let found = posted_at_place books histories k b low in
@@ -254,7 +254,7 @@ module _ (books : List BookState) (placed : List Placed) (cluster : IsCluster bo
 
   -- ---- No message came twice
 
-  -- the nodes to which messages went are there
+  -- the nodes to which messages went exist
   to_nodes : All (λ m. (1 ≤ to_of m) × (to_of m ≤ n)) (delivered placed)
   to_nodes =
       all_delivered (λ m. (1 ≤ to_of m) × (to_of m ≤ n)) placed

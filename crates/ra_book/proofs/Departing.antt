@@ -18,7 +18,7 @@ one_more a b = grind (arith, suc-mul)
 module _ (nodes : ℕ) (old new : NodeState) (spare spare' len len' capacity capacity' : ℕ) (departures : List Departure)
     (was : IsReserved nodes old spare len capacity departures)
   where
-    -- one client more has asked, and one more departure is made
+    -- another client has asked, and another departure is made
     pub reserved_asked : (departures' : List Departure) (departure : Departure) → departures' ≡ departures ++ departure ∷ [] → IsDeparture nodes departure
         → clients_count new ≡ clients_count old + 1 → HasRoomFor nodes (length departures + 1) spare' len' capacity'
         → IsReserved nodes new spare' len' capacity' departures'
@@ -47,7 +47,7 @@ module _ (nodes : ℕ) (old new : NodeState) (spare spare' len len' capacity cap
           };
         }
 
-    -- as many clients are there as before, and room for their leaves
+    -- the book has as many clients as before, and room for their leaves
     pub reserved_still : clients_count new ≡ clients_count old → HasRoomFor nodes (length departures) spare' len' capacity'
         → IsReserved nodes new spare' len' capacity' departures
     reserved_still count room = record { many = omega (arith, was.many, count); each = was.each; room = room }
@@ -62,7 +62,7 @@ module _ (nodes : ℕ) (old new : NodeState) (spare spare' len len' capacity cap
           room = record { events = omega (arith, was.room.events, grown.events); sent = omega (arith, was.room.sent, grown.len_is, grown.sent) };
         })
 
-    -- nothing but room changed
+    -- only room changed
     pub reserved_grown : (departures' : List Departure) → new ≡ old → departures' ≡ departures → HasGrown spare spare' len len' capacity capacity'
         → IsReserved nodes new spare' len' capacity' departures'
     reserved_grown departures' same is grown = subst (λ (ds : List Departure). IsReserved nodes new spare' len' capacity' ds) (sym is) (reserved_refused same grown)
@@ -77,7 +77,7 @@ pub put_back : (departures left departures' : List Departure) (departure : Depar
 put_back departures left departures' departure outcome was same is =
     is ∙ ap (λ (o : Outcome). left ++ record departure { outcome = o } ∷ []) same ∙ sym was
 
--- a list that is empty, and from which nothing was taken, is as before
+-- an empty list from which nothing was taken is as before
 pub still_empty : (departures departures' : List Departure) → departures ≡ departures' ++ [] → departures' ≡ departures
 still_empty departures departures' is = sym (is ∙ append-nil departures')
 

@@ -76,7 +76,7 @@ pairs_map R f (x ∷ xs) pairs =
     AllPairs-cons R (f x) (map f xs) (all_map (R (f x)) f xs (pairs_first (λ a b. R (f a) (f b)) x xs pairs))
     (pairs_map R f xs (pairs_rest (λ a b. R (f a) (f b)) x xs pairs))
 
--- if the values of all are different, so are those of the ones that pass a test
+-- if the values of all elements are different, so are the values of the elements that pass a test
 pub different_kept : {X Y : Type 0} (f : X → Y) (p : X → Bool) (xs : List X) → AreDifferent (map f xs) → AreDifferent (map f (filter p xs))
 different_kept f p xs different =
     pairs_map (λ a b. a ≢ b) f (filter p xs) (AllPairs-filter (λ a b. f a ≢ f b) p xs (pairs_of_map (λ a b. a ≢ b) f xs different))

@@ -23,7 +23,7 @@ use Rattle.ra_book.proofs.Running.{has_fault, has_next, passed, passed_allowed}
 
 -- ---- Each of the two
 
--- the client's own refusal is none of those for all
+-- the client's own refusal is not one of those for all
 refusal_apart : (ending : Ending) → (refusal_of ending ≢ Failed) × (refusal_of ending ≢ ClockFull) × (refusal_of ending ≢ Memory)
 refusal_apart (Leave client name) = (λ e. absurd (cc), λ e. absurd (cc), λ e. absurd (cc))
 refusal_apart (Cancel client name) = (λ e. absurd (cc), λ e. absurd (cc), λ e. absurd (cc))
@@ -41,13 +41,13 @@ pub most_sends : (ending : Ending) (nodes : ℕ) → sends_by nodes (kind_of end
 most_sends (Leave client name) nodes = refl
 most_sends (Cancel client name) nodes = refl
 
--- one client less is there
+-- there is one client less
 pub ending_counts : (ending : Ending) (old new : NodeState) (sends : List Message) (marks : List Mark) → NodeEvent old (node_event (kind_of ending)) sends marks new
     → clients_count new + 1 ≡ clients_count old
 ending_counts (Leave client name) old new sends marks event = leave_counts old new client name sends marks event
 ending_counts (Cancel client name) old new sends marks event = cancel_counts old new client name sends marks event
 
--- a client with a request is there
+-- there is a client with a request
 pub request_counts : (ending : Ending) (node : NodeState) → MayTake node (kind_of ending) → 1 ≤ clients_count node
 request_counts (Leave client name) node held = holder_counts node client name held.0 held.1
 request_counts (Cancel client name) node kept = kept_waiting_counts node client name kept

@@ -79,7 +79,8 @@ frames_in_parts (p ∷ prefix) rest =
     ap (λ (fs : List Frame). frames_at p.event.clock p.sends ++ fs) (frames_in_parts prefix rest)
     ∙ sym (append_assoc (frames_at p.event.clock p.sends) (frames_of prefix) (frames_of rest))
 
--- a book has the frames that its first events sent, and then those of the other events, which are no earlier than these
+-- a book has the frames that its first events sent, and then the frames of the other events, which are no earlier than
+-- these
 pub sent_in_parts : (b : BookState) (history : HasWholeHistory b) (clock : ℕ) (done left : List BookEvent) → b.events ≡ done ++ left → All (λ e. clock ≤ e.clock) left
     → (later : List Frame) × (map (λ s. s.frame) b.sent ≡ frames_of (take (length done) history.leads.postings) ++ later) × All (λ f. clock ≤ f.clock) later
 sent_in_parts b history clock done left parts late =

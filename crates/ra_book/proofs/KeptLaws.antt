@@ -1,4 +1,5 @@
--- The law on which all that a book does rests: what keeps a history goes on keeping it. A proof names it, and no code calls it.
+-- The law on which everything in a book depends: what keeps a history goes on keeping it. A proof names it, and no code
+-- calls it.
 use Rattle.std.proofs.Common.{◌≡◌, ℕ, ◌≤◌, List}
 use Rattle.ra_stamp.specs.declared.entry.Mark.{Mark}
 use Rattle.ra_stamp.specs.declared.message.Message.{Message}

@@ -1,4 +1,5 @@
--- Keys are in a total order, in which different keys differ. Different requests, messages and frames have different keys.
+-- Keys are in a total order, and different keys differ in it. Different requests, messages and frames have different
+-- keys.
 use Rattle.std.proofs.Common.{◌≡◌, ℕ, zero, suc, List, Ordering, refl, sym, ap, ◌∙◌}
 use Rattle.std.specs.Ordering.{nat_cmp, ordering_then}
 use Rattle.std.specs.Cmp.{IsTotalOrder, nat_cmp_total, on_total, then_total}

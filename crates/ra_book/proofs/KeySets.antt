@@ -17,7 +17,7 @@ pub no_keys : {K : Type 0} (set : BTreeSet K) → set.keys ≡ [] → HasKeys se
 no_keys {K} set none key = (subst (λ (ks : List K). Contains ks key) none, subst (λ (ks : List K). Contains ks key) (sym none))
 
 module _ {K : Type 0} {R : K → K → Ordering} (total : IsTotalOrder R) (exact : CmpEqualImpliesEq R) where
-  -- one more key
+  -- another key
   pub keys_more : (old new : BTreeSet K) (key : K) (list : List K) → HasKeys old list → sorted.Updates R old new key true → HasKeys new (list ++ key ∷ [])
   keys_more old new key list has updated q = (
     λ is. by_cases (eq_by_cmp R key q) refl ((btree_set_contains_iff total exact new q).1 is),
@@ -63,7 +63,7 @@ pub at_false : (b : Bool) (P Q : Type 0) → b ≡ false → MatchBool b P Q →
 at_false true P Q e is = absurd (false≢true (sym e))
 at_false false P Q e is = is
 
--- ---- Sets of the keys of values, no two of which are equal
+-- ---- Sets of the keys of values without equal ones
 
 abbrev pub HasAll : {K X : Type 0} → (X → K) → BTreeSet K → List X → Type 0
 HasAll key set xs = HasKeys set (map key xs) × AllPairs (λ a b. a ≢ b) xs
@@ -85,7 +85,7 @@ repeats_more xs ys r =
     }
 
 module _ {K X : Type 0} {R : K → K → Ordering} (total : IsTotalOrder R) (exact : CmpEqualImpliesEq R) (key : X → K) (one : (a b : X) → key a ≡ key b → a ≡ b) where
-  -- a key in the list of all keys is that of one of the values
+  -- a key in the list of all keys is the key of one of the values
   at_key : (xs : List X) (x : X) → Contains (map key xs) (key x) → (k : ℕ) × (k < length xs) × ((d : X) → get_or xs k d ≡ x)
   at_key xs x is =
       let within : is.0 < length xs = omega (arith, is.1, length-map xs key) in

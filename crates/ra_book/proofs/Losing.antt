@@ -80,7 +80,7 @@ same_frames xs place x at = map-set_same (λ (t : Sent). t.frame) xs place (reco
 not_both : {b : Bool} → b ≡ true → b ≡ false → ⊥
 not_both is not = absurd (cc)
 
--- ---- What comes of flagging it
+-- ---- The outcome of flagging it
 
 pub flags_none : (xs : List Sent) (frame : Frame) → All (λ (t : Sent). t.frame ≢ frame) xs → IsFlagged xs frame xs (Err NotSent)
 flags_none xs frame none = record {

@@ -1,5 +1,5 @@
--- The messages of the frames that are flagged lost: they are different from each other, and from those that came, where each
--- book's own are.
+-- The messages of the frames that are flagged lost: they are different from each other, and from those that came, if
+-- the messages of each book are.
 use Rattle.std.proofs.Common.{◌≡◌, ◌≢◌, ◌⊎◌, ℕ, ◌+◌, ◌<◌, Bool, true, false, cond, List, [], ◌∷◌, ◌++◌, map, length, get_or, refl, sym, ap, ◌∙◌, subst, arith, inl, inr}
 use Rattle.std.specs.Prelude.{All, AllPairs, Contains}
 use Rattle.std.specs.List.{filter, flat_map}
@@ -26,7 +26,7 @@ messages_of b = map (λ s. s.frame.message) b.sent
 abbrev message_in : Sent → Message
 message_in s = s.frame.message
 
--- one more frame, lost or not
+-- another frame, lost or not
 module _ (s : Sent) (sent : List Sent) (m : Message) where
   -- the first one is lost and has this message, or it is among the later ones
   lost_here : Contains (lost_among (s ∷ sent)) m → ((s.lost ≡ true) × (message_in s ≡ m)) ⊎ Contains (lost_among sent) m
@@ -70,7 +70,7 @@ kept_or_lost (s ∷ sent) f different kept lost =
 
 -- ---- Of several books
 
--- lists of messages of each book, which tell it by a number in each message: that of its node
+-- lists of messages of each book, which has its node's number in each message
 module _ (g : BookState → List Message) (number : Message → ℕ) where
   abbrev TellTheirBook : List BookState → Type 0
   TellTheirBook books = All (λ b. All (λ m. number m ≡ b.me) (g b)) books

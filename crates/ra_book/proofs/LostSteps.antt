@@ -14,7 +14,7 @@ use Rattle.ra_book.specs.Settled.{lost_among, all_lost}
 abbrev losses : List Message → List Step
 losses ms = map (λ m. Lose m) ms
 
--- one more frame
+-- another frame
 module _ (steps initial : List Step) (sent : List Sent) (i : ℕ) (s : Sent) (within : i < length sent) (at : get_or sent i s ≡ s)
     (before : steps ≡ initial ++ losses (lost_among (take i sent))) where
   more : lost_among (take (i + 1) sent) ≡ lost_among (take i sent) ++ lost_among (s ∷ [])
@@ -36,7 +36,7 @@ module _ (steps initial : List Step) (sent : List Sent) (i : ℕ) (s : Sent) (wi
       ∙ ap (λ (ms : List Message). initial ++ losses ms)
       (sym (more ∙ ap (λ b. lost_among (take i sent) ++ map (λ s. s.frame.message) (cond b (s ∷ []) [])) is ∙ append-nil (lost_among (take i sent))))
 
--- one more book
+-- another book
 pub book_more : (steps steps' initial : List Step) (books : List BookState) (i : ℕ) (b : BookState) → i < length books → b ≡ get_or books i b
     → steps ≡ initial ++ losses (all_lost (take i books)) → steps' ≡ steps ++ losses (lost_among b.sent) → steps' ≡ initial ++ losses (all_lost (take (i + 1) books))
 book_more steps steps' initial books i b within at before here =

@@ -149,7 +149,7 @@ module _ (books : List BookState) (taken : List ℕ) (placed : List Placed) (tur
 
 -- ---- All events
 
--- the book at a place is that of the node with the next number
+-- the book at a place belongs to the node with the next number
 pub number_at : (books : List BookState) → IsCluster books → (k : ℕ) (d : BookState) → k < length books → (get_or books k d).me ≡ k + 1
 number_at books cluster k d within =
     sym (get_or-map (λ (b : BookState). b.me) books k d 0 within)

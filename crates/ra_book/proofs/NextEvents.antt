@@ -40,7 +40,7 @@ are_first books =
 pub nothing_taken : (books : List BookState) (nexts : List Next) → nexts ≡ first_of_each books → AreNext books nexts × (taken_of nexts ≡ replicate (length books) 0)
 nothing_taken books nexts is = (subst (AreNext books) (sym is) (are_first books), ap taken_of is ∙ none_of_each books)
 
--- one more book
+-- another book
 pub one_more_first : (books : List BookState) (i : ℕ) (book : BookState) (nexts nexts' : List Next) (next : Next) → i < length books → book ≡ get_or books i book
     → nexts ≡ first_of_each (take i books) → next ≡ next_of_book book 0 → nexts' ≡ nexts ++ next ∷ [] → nexts' ≡ first_of_each (take (i + 1) books)
 one_more_first books i book nexts nexts' next within at are is more =
@@ -131,7 +131,7 @@ module _ (books : List BookState) (nexts : List Next) (are : AreNext books nexts
             ];
           }
 
--- ---- One turn of the loop, to which the list is lent
+-- ---- One turn of the loop that is lent the list
 
 pub next_turn : {Z : Type 0} (books : List BookState) (nexts : Vec Next Z) (lent new : List Next) (turn : Turn) → AreNext books nexts.items → lent ≡ nexts.items
     → IsEarliest books (taken_of lent) (length books) (Some turn) → taken_of new ≡ with_one_more (taken_of lent) turn.place → AreNext books new

@@ -42,7 +42,7 @@ module _ (n start : ℕ) (prefixes : (prefix suffix : List Move) → IsRun n sta
       nowhere : Contains [] mark → ⊥
       nowhere (k, low, at) = omega (arith, low)
 
-  -- the node at which a step is an event
+  -- the node whose event a step is
   node_of : (prefix : List Move) (step : Step) (sends : List Message) (marks : List Mark) → IsRun n start prefix → IsFit n prefix step sends marks → Contains marks mark
       → (i : ℕ) × ((1 ≤ i) × (i ≤ n)) × (event : Event) × (events_at i step ≡ event ∷ [])
   node_of prefix (Ask node client name mode) sends marks run fit is = (node, fit, acts.Ask client name mode, ap (λ b. cond b (acts.Ask client name mode ∷ []) []) (eq-eqb node node refl))
@@ -132,7 +132,7 @@ tail_of e = cc
 none_some : {X : Type 0} {x : X} {xs : List X} → [] ≡ x ∷ xs → ⊥
 none_some e = cc
 
--- each event with what came of it
+-- each event with its outcome
 abbrev pub posted : List BookEvent → List Happening → List Posting
 posted [] happened = []
 posted (e ∷ events) [] = []

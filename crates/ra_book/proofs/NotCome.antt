@@ -1,4 +1,5 @@
--- Books of which the pairs fit: at the end of their settled runs exactly that is under way which was sent and has not come.
+-- Books whose pairs fit: at the end of their settled runs exactly those messages are under way that were sent and have
+-- not come.
 use Rattle.std.proofs.Common.{◌≡◌, ◌≢◌, ◌⊎◌, ℕ, ◌+◌, ◌-◌, ◌<◌, ◌≤◌, Bool, true, false, cond, eqb, List, [], ◌∷◌, ◌++◌, map, length, get_or, take, drop, refl, sym, ap, ◌∙◌, subst, append_assoc, arith, inl, inr}
 use Rattle.std.specs.Prelude.{◌↔◌, IsTrue, All, Contains}
 use Rattle.std.specs.List.{filter, flat_map}
@@ -58,7 +59,7 @@ received_in (acts.Cancel client name) = []
 received_in (acts.Receive message) = message ∷ []
 received_in acts.Forget = []
 
--- no more often than the step of which it is the event
+-- no more often than the step whose event it is
 taken_here : (is : Message → Bool) (i : ℕ) (step : Step) → times is (flat_map received_in (events_at i step)) ≤ times is (taken_in step)
 taken_here is i (Ask node client name mode) = none_by (eqb node i)
   where

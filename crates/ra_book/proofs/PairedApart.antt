@@ -1,4 +1,4 @@
--- Books of which the pairs fit, and of which each sent different messages: no message came twice. So they fit.
+-- Books whose pairs fit, and that each sent different messages: no message came twice. So they fit.
 use Rattle.std.proofs.Common.{◌≡◌, ◌≢◌, ℕ, ◌-◌, ◌<◌, ◌≤◌, Bool, eqb, List, [], ◌∷◌, ◌++◌, map, length, get_or, refl, sym, ap, ◌∙◌, subst, arith}
 use Rattle.std.specs.Prelude.{All}
 use Rattle.std.specs.List.{flat_map}

@@ -1,4 +1,4 @@
--- Books of which the pairs fit: all that came was sent and kept, and the events in the settled order are a run.
+-- Books whose pairs fit: all that came was sent and kept, and the events in the settled order are a run.
 use Rattle.std.proofs.Common.{◌≡◌, ◌≢◌, ℕ, ◌-◌, ◌<◌, ◌≤◌, Bool, true, false, cond, eqb, List, [], ◌∷◌, ◌++◌, map, length, get_or, refl, sym, ap, ◌∙◌, subst, append_assoc, arith, inl, inr}
 use Rattle.std.specs.Prelude.{All, Contains}
 use Rattle.std.specs.List.{filter, flat_map}
@@ -228,7 +228,7 @@ module _ (books : List BookState) (cluster : IsCluster books) (histories : All H
             (subst (λ (k : BookKind). All (λ g. (g.clock < p.event.clock) × WasSent books g) (frames_in k)) kind
             (come_before books placed cluster histories order all_sent prefix p suffix parts))).0
 
-        -- as its clock is less than those of what is sent later, it was sent before, after all that came before it
+        -- its clock is less than the clocks of what is sent later, so it was sent before, after all that came before it
         sent_first : (rest : List Frame) × (filter is_to (first_frames j prefix) ≡ came_before ++ f ∷ rest)
         sent_first = elim (place_in (filter is_to (first_frames j prefix)) (filter is_to sent.0) came_before f (comes_after ++ pair.0) both) [
           | inl found ↦ found

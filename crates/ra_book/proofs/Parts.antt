@@ -26,7 +26,7 @@ any_first P x xs p = (0, x, omega arith, refl, p)
 
 -- ---- Joined lists
 
--- what is in one of joined lists, and in which
+-- what is in one of several joined lists, and in which one
 pub in_one : {X Y : Type 0} (f : X → List Y) (xs : List X) (y : Y) → Contains (flat_map f xs) y → Any (λ x. Contains (f x) y) xs
 in_one f [] y is = absurd (omega (arith, is.1))
 in_one f (x ∷ xs) y is =

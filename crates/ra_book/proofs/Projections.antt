@@ -94,7 +94,7 @@ nothing_repeated moves placed ms steps = repeated_by_steps moves ∙ ap (flat_ma
 
 -- ---- The events
 
--- a frame came to the node to which it was to go
+-- a frame came to its receiver
 abbrev pub IsAddressed : ℕ → BookKind → Type 0
 IsAddressed i (Ask client name mode) = Unit {0}
 IsAddressed i (Leave client name) = Unit {0}
@@ -121,12 +121,12 @@ projected i (p ∷ placed) h =
     by_test true rest = refl
     by_test false rest = refl
 
--- ---- Frames come to the nodes to which they were to go
+-- ---- Frames come to their receivers
 
 pub of_map : {X Y : Type 0} (P : Y → Type 0) (f : X → Y) (xs : List X) → All P (map f xs) → All (λ x. P (f x)) xs
 of_map P f xs h k d low = subst P (get_or-map f xs k d (f d) low) (h k (f d) (omega (arith, low, length-map xs f)))
 
--- the events of a book are those of its node
+-- the events of a book are its node's
 pub for_this_node : (b : BookState) → HasWholeHistory b → All (λ e. IsForThisNode (opening_node b.me b.nodes b.start) (node_event e.kind)) b.events
 for_this_node b history =
     let old = opening_node b.me b.nodes b.start in

@@ -44,7 +44,7 @@ nothing_in (Cancel client name) none = refl
 nothing_in Forget none = refl
 nothing_in (Receive frame) none = absurd (none frame refl)
 
--- all of them, with those of one more event
+-- all of them, with those of another event
 pub all_more : (P : Frame → Type 0) (events : List BookEvent) (i : ℕ) (e : BookEvent) → i < length events → e ≡ get_or events i e → All P (received_among (take i events)) → All P (frames_in e.kind)
     → All P (received_among (take (i + 1) events))
 all_more P events i e within at before here =

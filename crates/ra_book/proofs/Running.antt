@@ -48,12 +48,12 @@ has_fault (Some stop) is none = absurd (cc)
 
 -- ---- What comes next
 
--- the clock after this one, or that there is none
+-- the clock after this one, or the fact that there is none
 abbrev pub ComesAt : ℕ → BookKind → Result ℕ BookError → Type 0
 ComesAt clock kind r =
     MatchResult r (λ next. (next ≡ clock_after clock kind) × (next ≤ 2 ^ 62)) (λ e. (e ≡ ClockFull) × (2 ^ 62 < clock_after clock kind))
 
--- it is there exactly if a clock is left
+-- it exists exactly if a clock is left
 abbrev pub HasNext : {T : Type 0} → BookState → BookKind → Result T BookError → Type 0
 HasNext book kind r = MatchResult r (λ _. HasClock book kind) (λ e. (e ≡ ClockFull) × (HasClock book kind → ⊥))
 
@@ -65,7 +65,7 @@ has_next book clock kind is (Err e) comes =
     let full = subst (λ (k : ℕ). 2 ^ 62 < clock_after k kind) is comes.1 in
     (comes.0, λ has. omega (arith, full, has))
 
--- the clock that comes next is that of an event of a book without a fault
+-- the clock that comes next is the clock of an event of a book without a fault
 pub next_is_ok : (book : BookState) (kind : BookKind) → book.fault ≡ None → (clock : ℕ) → clock ≡ clock_of (whole_events book)
     → (r : Result ℕ BookError) → ComesAt clock kind r → (found : Option ℕ) → found ≡ result_ok r → IfSome found (HasNextClock book kind)
 next_is_ok book kind none clock is r comes found found_is = subst (λ (o : Option ℕ). IfSome o (HasNextClock book kind)) (sym found_is) (by_clock r comes)
@@ -213,7 +213,7 @@ module _ (book : BookState) (client : ℕ) (name : List ℕ) (mode : Mode) where
     ask_answered ask.Exhausted busy exhausted allowed has (Err x) h = let is = exhausted.0 refl in ask_exhausted is.0 is.1 x h
     ask_answered ask.Memory busy exhausted allowed has (Err x) h = ask_memory (allowed.0 refl) has x h
 
-    -- it is refused, unless memory is there
+    -- it is refused, unless there is memory for it
     pub ask_refused : (clock : ℕ) → clock ≡ clock_of (whole_events book) → (why : BookError) → IsRefusedAfter node clock (Ask client name mode) why
         → RefusesAsk book client name mode why
     ask_refused clock is why (inl (inl busy)) = ask_busy busy.1 why busy.0

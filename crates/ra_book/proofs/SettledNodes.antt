@@ -1,4 +1,4 @@
--- The nodes of a settled run are those of the books.
+-- The nodes of a settled run are the books' nodes.
 use Rattle.std.proofs.Common.{ℕ, ◌<◌, List, [], length, get_or, None, sym, subst, arith}
 use Rattle.std.specs.Prelude.{All}
 use Rattle.ra_stamp.specs.NodeId.{IsNodeNumber}

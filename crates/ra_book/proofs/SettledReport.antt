@@ -56,7 +56,7 @@ pub from_zero : (books : List BookState) → 1 ≤ length books → All (λ b. b
 from_zero [] some all = absurd (omega (arith, some))
 from_zero (b ∷ books) some all = all 0 b (omega arith)
 
--- what came of the steps, with the number of the books
+-- the outcome of the steps, with the number of the books
 pub has_run : (books : List BookState) (b : BookState) (n start : ℕ) (settled : Settled) → IsCluster books → b ≡ get_or books 0 b → n ≡ b.nodes → start ≡ b.start
     → RunOf n start settled.steps.items settled.report → MainTheorem n settled.report → HasRun books settled.steps.items settled
 has_run books b n start settled cluster is nodes starts ran main =
@@ -93,7 +93,7 @@ settles make books cluster histories placed steps settled order are has =
 module _ (grant : GrantsAreInTheBooks) (books : List BookState) (cluster : IsCluster books) (grants : List Grant) (settled : Settled) (of : SettlesBooks books settled)
     (marks : List Mark) (marks_are : marks ≡ settled.report.marks.items)
   where
-    -- the marks are those of the run
+    -- the marks are the run's
     marks_of_run : marks ≡ marks_of of.moves
     marks_of_run = marks_are ∙ of.reports.marks
 

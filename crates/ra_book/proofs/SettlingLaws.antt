@@ -1,4 +1,4 @@
--- Laws on which settling rests. A proof names them, and no code calls them.
+-- Laws on which settling depends. A proof names them, and no code calls them.
 use Rattle.ra_node.proofs.NodeLemmas.{opening_is_consistent}
 use Rattle.ra_node.proofs.EventLemmas.{same_node}
 use Rattle.ra_node.proofs.EventsKept.{node_kept, event_sends, event_marks}
@@ -80,7 +80,7 @@ pub grants_are_in_the_books : GrantsAreInTheBooks
 grants_are_in_the_books books moves entry cluster histories settled =
     (granted_there grant_laws books moves entry cluster histories settled, entered_then grant_laws books moves entry cluster histories settled)
 
--- after a settled run of books of which the pairs fit, exactly that is under way which has not come
+-- after a settled run of books whose pairs fit, exactly those messages are under way that have not come
 pub what_has_not_come_is_under_way : (books : List BookState) (moves : List Move) → IsCluster books → All HasHistory books → PairsFit books → IsSettledRun books moves
     → (message : Message) → IsUnderWay moves message ↔ HasNotCome books message
 what_has_not_come_is_under_way = under_way grant_laws (something_under_way laws_below) eq-value.it same_messages frames_of_books_are_from_their_nodes

@@ -39,7 +39,7 @@ received_in (acts.Cancel client name) = []
 received_in (acts.Receive message) = message ∷ []
 received_in acts.Forget = []
 
--- no more often than the step of which it is the event
+-- no more often than the step whose event it is
 taken_here : (is : Message → Bool) (i : ℕ) (step : Step) → times is (flat_map received_in (events_at i step)) ≤ times is (taken_in step)
 taken_here is i (Ask node client name mode) = none_by (eqb node i)
   where

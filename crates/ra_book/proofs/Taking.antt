@@ -33,7 +33,7 @@ clocks_rise clock (e ∷ f ∷ es) (suc i) a b clocked at next = clocks_rise e.c
 
 -- ---- The earliest of the next events
 
--- the first one, unless there is none or the other one has a lesser clock
+-- the first one, unless it is missing or the other one has a lesser clock
 abbrev earlier_of : Option Turn → Turn → Turn
 earlier_of None other = other
 earlier_of (Some turn) other = cond (leb turn.event.clock other.event.clock) turn other
@@ -129,7 +129,7 @@ lesser_head (Some turn) other = by_clock (leb turn.event.clock other.event.clock
     by_clock true = refl
     by_clock false = refl
 
--- one more book has this event next
+-- another book has this event next
 pub head_more : (books : List BookState) (taken : List ℕ) (count : ℕ) (event : BookEvent) → IsNextOfBook books taken count event → (first : Option Head) → IsHeadOfEarliest books taken count first
     → IsHeadOfEarliest books taken (count + 1) (Some (lesser_of first (record { place = count; clock = event.clock })))
 head_more books taken count event next first (turn, earliest, is) =
@@ -139,12 +139,12 @@ head_more books taken count event next first (turn, earliest, is) =
       ap (λ (h : Option Head). Some (lesser_of h (head_of here))) is ∙ ap (λ (h : Head). Some h) (lesser_head turn here),
     )
 
--- one more book has none
+-- another book has none
 pub head_same : (books : List BookState) (taken : List ℕ) (count : ℕ) (first : Option Head) → IsHeadOfEarliest books taken count first
     → ((e : BookEvent) → IsNextOfBook books taken count e → ⊥) → IsHeadOfEarliest books taken (count + 1) first
 head_same books taken count first (turn, earliest, is) none = (turn, earliest_same books taken count turn earliest none, is)
 
--- the event that is there is the earliest
+-- the only event is the earliest
 pub turn_of_head : (books : List BookState) (taken : List ℕ) (count : ℕ) (head : Head) (turn : Turn) → IsHeadOfEarliest books taken count (Some head)
     → turn.place ≡ head.place → IsNextOfBook books taken head.place turn.event → IsEarliest books taken count (Some turn)
 turn_of_head books taken count head turn (None, earliest, is) at next = absurd (none-some head (sym is))
@@ -175,7 +175,7 @@ pub no_head : (books : List BookState) (taken : List ℕ) (count : ℕ) → IsHe
 no_head books taken count (None, earliest, is) = earliest
 no_head books taken count (Some t, earliest, is) = absurd (none-some (head_of t) is)
 
--- the clock of the next event is that of one that is next
+-- the clock of the next event is the clock of a book's next event
 pub clock_is_next : (books : List BookState) (taken : List ℕ) (k : ℕ) (book : BookState) (clock : ℕ) → slice_get books k ≡ Some book
     → Some clock ≡ option_map (λ (e : BookEvent). e.clock) (slice_get book.events (slice_index taken k)) → (e : BookEvent) × IsNextOfBook books taken k e × (clock ≡ e.clock)
 clock_is_next books taken k book clock at is = of (slice_get book.events (slice_index taken k)) refl is

@@ -40,6 +40,6 @@ module _ (books : List BookState) (cluster : IsCluster books) (frame : Frame) (s
 pub all_sent : (books : List BookState) → All (λ f. WasSent books f) (all_received books) → HasUnsent books → ⊥
 all_sent books all (k, f, low, at, none) = none (subst (WasSent books) at (all k f low))
 
--- a list in which all are different does not repeat
+-- a list of different elements does not repeat
 pub no_repeats : {X : Type 0} (xs : List X) → AllPairs (λ a b. a ≢ b) xs → Repeats xs → ⊥
 no_repeats xs apart r = apart r.first r.second r.item r.in_order r.within (r.first_is ∙ sym r.second_is)

@@ -34,7 +34,7 @@ pub record BookState : Type 0 where
   pub sent : List Sent
   pub fault : Option Stop
 
--- a book in which nothing has happened yet
+-- a book before its first event
 abbrev pub opening_book : ℕ → ℕ → ℕ → BookState
 opening_book me nodes start =
     record { me = me; nodes = nodes; start = start; taken = nothing_taken; events = []; sent = []; fault = None }
@@ -75,14 +75,14 @@ HasClock book kind = next_clock book kind ≤ 2 ^ 62
 abbrev pub as_sent : List Frame → List Sent
 as_sent frames = map (λ frame. record { frame = frame; lost = false }) frames
 
--- the book with one more event, at this clock, that sent these frames
+-- the book with another event, at this clock, that sent these frames
 abbrev pub with_event : BookState → ℕ → BookKind → List Frame → BookState
 with_event book clock kind frames = record book {
   events = book.events ++ record { clock = clock; kind = kind } ∷ [];
   sent = book.sent ++ as_sent frames;
 }
 
--- The book has one more event, and the node to which the old book leads posted these frames and marks in it. The frames
+-- The book has another event, and the node to which the old book leads posted these frames and marks in it. The frames
 -- have the clock of the event.
 pub record Adds (old : BookState) (kind : BookKind) (frames : List Frame) (marks : List Mark)
     (new : BookState) : Type 0 where
@@ -101,7 +101,7 @@ pub record Runs (book : BookState) (P : NodeState → Type 0) : Type 0 where
   pub leads : LeadsTo book node
   pub holds : P node
 
--- the book has no fault, and the bytes are the text of a frame for which this holds
+-- the book has no fault, and the bytes are the text of a frame with this property
 pub record ReadsFrame (book : BookState) (bytes : List ℕ) (P : Frame → Type 0) : Type 0 where
   pub no_fault : book.fault ≡ None
   pub frame : Frame

@@ -5,15 +5,15 @@ use Rattle.ra_book.specs.History.{clock_of}
 use Rattle.ra_book.specs.Book.{BookState}
 use Rattle.ra_book.specs.Pairs.{sent_to, come_from}
 
--- the book, from which nothing was taken, after its first `count` events, or after all if it has fewer: these, and the
--- frames with no greater clocks than the last of them
+-- the book after its first `count` events, or after all if it has fewer: these, and the frames with no greater clocks
+-- than the last of them. Nothing was taken from the book
 abbrev pub first_of : ℕ → BookState → BookState
 first_of count book = record book {
   events = take count book.events;
   sent = filter (λ s. nat_le s.frame.clock (clock_of (take count book.events))) book.sent;
 }
 
--- the books, each after its first events: so many, by node
+-- the books, each after its first events: this many, by node
 abbrev pub cut_books : (ℕ → ℕ) → List BookState → List BookState
 cut_books counts books = map (λ b. first_of (counts b.me) b) books
 

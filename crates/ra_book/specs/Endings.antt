@@ -14,7 +14,7 @@ use Rattle.ra_book.specs.Book.{BookState, HasClock, Runs}
 use Rattle.ra_book.specs.EventChecks.{MayTake}
 use Rattle.ra_book.specs.History.{node_event}
 
--- the event by which it ends
+-- the event that ends it
 abbrev pub kind_of : Ending → BookKind
 kind_of (Leave client name) = kinds.Leave client name
 kind_of (Cancel client name) = kinds.Cancel client name

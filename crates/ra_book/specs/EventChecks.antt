@@ -13,7 +13,7 @@ use Rattle.ra_book.specs.declared.book.event.BookKind.{BookKind}
 use Rattle.ra_book.specs.declared.book.event.BookKind.TheVariants.{Ask, Leave, Cancel, Receive, Forget}
 use Rattle.ra_book.specs.History.{clock_after}
 
--- the node can take the event, were there a clock and memory
+-- the node can take the event, given a clock and memory
 abbrev pub MayTake : NodeState → BookKind → Type 0
 MayTake node (Ask client name mode) = MayAsk (resource_at node name) client
 MayTake node (Leave client name) = (entry : Entry) × Holds (resource_at node name) client entry

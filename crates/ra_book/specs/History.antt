@@ -21,8 +21,8 @@ node_event kinds.Forget = Forget
 
 -- ---- The clock
 
--- the clock of an event that comes after this clock: one more, and for a frame one more than the greater of this clock
--- and the frame's
+-- the clock of an event that comes after this clock: this clock plus 1, and for a frame the greater of this clock and
+-- the frame's, plus 1
 abbrev pub clock_after : ℕ → BookKind → ℕ
 clock_after clock (kinds.Ask client name mode) = clock + 1
 clock_after clock (kinds.Leave client name) = clock + 1
@@ -58,7 +58,7 @@ abbrev pub happening_of : Posting → Happening
 happening_of posting =
     record { event = node_event posting.event.kind; sends = posting.sends; marks = posting.marks }
 
--- the frames in which messages go out at this clock
+-- the frames that carry messages sent at this clock
 abbrev pub frames_at : ℕ → List Message → List Frame
 frames_at clock messages = map (λ message. record { clock = clock; message = message }) messages
 

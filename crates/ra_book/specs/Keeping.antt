@@ -54,7 +54,7 @@ book_of b = record {
   fault = b.fault;
 }
 
--- what holds of the fields: the events lead to the node that is kept with them, and what leaves need is there
+-- what holds of the fields: the events lead to the node that is kept with them, and there is room for what leaves need
 pub record IsKept (b : Inside) : Type 0 where
   pub keeps : Keeps (book_of b) b.node
   pub reserved : IsReserved b.nodes b.node b.events.spare (vec_len b.sent) (vec_capacity b.sent) b.departures.items

@@ -1,4 +1,4 @@
--- Requests, messages and frames as keys with which they are looked up: their fields, the mode as a number. No public
+-- Requests, messages and frames as keys for looking them up: their fields, with the mode as a number. No public
 -- contract speaks of them.
 use Rattle.std.specs.Prelude.{◌↔◌, ◌≢◌, ℕ, List, [], ◌∷◌, map, AllPairs, Contains}
 use Rattle.std.specs.BTreeSet.{BTreeSet}
@@ -34,7 +34,7 @@ mode_number SharedIntentExclusive = 5
 abbrev pub entry_key : Entry → OrderKey
 entry_key entry = (entry.stamp.seq, entry.stamp.node, entry.client, mode_number entry.mode, entry.name)
 
--- the key of a message, in which the mode of a REPLY is 0
+-- the key of a message; the mode of a REPLY is 0 in it
 abbrev pub message_key : Message → OrderKey
 message_key (Request from to name mode seq) = (seq, from, to, mode_number mode, name)
 message_key (Reply from to name seq) = (seq, from, to, 0, name)

@@ -19,8 +19,8 @@ come_from j book = filter (λ f. from_of f.message == j) (received_among book.ev
 abbrev pub AreFirstOf : List Frame → List Frame → Type 0
 AreFirstOf first all = (more : List Frame) × (all ≡ first ++ more)
 
--- Of each two different nodes, the frames that came at one from the other are the first of those that the other one
--- sent to it, in order. No frame is flagged lost.
+-- For any two different nodes, the frames that came at one from the other are the first ones that the other one sent to
+-- it, in order. No frame is flagged lost.
 pub record PairsFit (books : List BookState) : Type 0 where
   pub in_order : All (λ at. All (λ other. at.me ≢ other.me → AreFirstOf (come_from other.me at) (sent_to at.me other))
       books) books
@@ -36,7 +36,7 @@ abbrev pub HasNotCome : List BookState → Message → Type 0
 HasNotCome books message = Any (λ at. Any (λ other. (at.me ≢ other.me)
     × Contains (map (λ f. f.message) (not_come other at)) message) books) books
 
--- Of each two different nodes, the frames that came at one from the other are all those that the other one sent to it,
+-- For any two different nodes, the frames that came at one from the other are all those that the other one sent to it,
 -- in order.
 abbrev pub AllHasCome : List BookState → Type 0
 AllHasCome books =

@@ -27,7 +27,7 @@ abbrev pub start_of : List BookState → ℕ
 start_of [] = 0
 start_of (book ∷ books) = book.start
 
--- the books of nodes 1 to n, in order, with one n and one start, from which nothing was taken; there is at least one
+-- the books of nodes 1 to n, in order, with one n and one start; nothing was taken from them, and there is at least one
 pub record IsCluster (books : List BookState) : Type 0 where
   pub some : 1 ≤ length books
   pub numbers : map (λ b. b.me) books ≡ range_with_len 1 (length books)
@@ -37,7 +37,7 @@ pub record IsCluster (books : List BookState) : Type 0 where
 
 -- ---- The settled order
 
--- an event, and the node at which it happened
+-- an event and its node
 pub record Placed : Type 0 where
   pub node : ℕ
   pub event : BookEvent
@@ -50,9 +50,9 @@ IsBefore a b = (a.event.clock < b.event.clock) ⊎ ((a.event.clock ≡ b.event.c
 abbrev pub events_of : ℕ → List Placed → List BookEvent
 events_of i placed = map (λ p. p.event) (filter (λ p. p.node == i) placed)
 
--- All events of all books in one list, and no others: those of each node are its book's, in their order, and the list
--- is sorted by clock and then by node. As the clocks of each book rise, no two events are equal, and only one such list
--- exists.
+-- All events of all books in one list, and no others: the events of each node are its book's, in their order, and the
+-- list is sorted by clock and then by node. As the clocks of each book rise, no two events are equal, and only one such
+-- list exists.
 pub record IsSettledOrder (books : List BookState) (placed : List Placed) : Type 0 where
   pub each : All (λ b. events_of b.me placed ≡ b.events) books
   pub no_others : All (λ p. (1 ≤ p.node) × (p.node ≤ length books)) placed

@@ -13,7 +13,7 @@ taken_of t = record {
   sent = flat_map (λ sent. sent.items) t.sent.items;
 }
 
--- the last event has this clock, and if nothing was taken there is none
+-- the last event that was taken has this clock; if nothing was taken there is none
 pub record IsKeptTaken (t : Inside) : Type 0 where
   pub clock : t.clock ≡ clock_of (taken_of t).events
   pub events : t.some ≡ false → (taken_of t).events ≡ []

@@ -98,9 +98,8 @@ impl Book {
     ghost use Rattle.ra_book.specs.Book.{opening_book, whole_events, with_all_taken, IsWhole, LeadsTo, HasHistory, HasClock, Adds, Runs, ReadsFrame, IsFirst, Loses};
     ghost use Rattle.ra_book.specs.Keeping.{HasNextClock, IsChecked, RefusesAsk, RefusesReceive, IsRead};
 
-    /// Makes the book of node `me` of `nodes`, in which nothing has happened yet. The highest number of each resource
-    /// begins at `start`, 0 to 2^64-1, which is to be the same at all nodes. It does not allocate until the first
-    /// event comes.
+    /// Makes the book of node `me` of `nodes`, before its first event. The highest number of each resource begins at
+    /// `start`, 0 to 2^64-1, which has to be the same at all nodes. It does not allocate until the first event comes.
     ///
     /// # Errors
     ///
@@ -138,7 +137,7 @@ impl Book {
         }
     }
 
-    /// A client of the node asks for a name. The clock is one more than before, and the frames and marks are those of
+    /// A client of the node asks for a name. The clock rises by 1, and the frames and marks are those of
     /// the node's event, as [`Node::ask`] says. Room is made for the client's leave or cancel, too: some 400 bytes
     /// for each node of the cluster.
     ///
@@ -198,7 +197,7 @@ impl Book {
         Ok(keep(&mut self.events, &mut self.sent, frames, event, outcome))
     }
 
-    /// The client that holds a name leaves it. The clock is one more than before, and the frames and marks are those
+    /// The client that holds a name leaves it. The clock rises by 1, and the frames and marks are those
     /// of the node's event, as [`Node::leave`] says. It does not allocate: the client's ask made room for it.
     ///
     /// # Errors
@@ -229,7 +228,7 @@ impl Book {
         self.end(alloc, &Ending::Leave { client, name })
     }
 
-    /// A client that waits or is queued for a name gives it up. The clock is one more than before, and the frames and
+    /// A client that waits or is queued for a name gives it up. The clock rises by 1, and the frames and
     /// marks are those of the node's event, as [`Node::cancel`] says. It does not allocate: the client's ask made
     /// room for it.
     ///
@@ -261,7 +260,7 @@ impl Book {
         self.end(alloc, &Ending::Cancel { client, name })
     }
 
-    /// The node forgets names, as [`Node::forget`] says. The clock is one more than before, and nothing is posted.
+    /// The node forgets names, as [`Node::forget`] says. The clock rises by 1, and nothing is posted.
     /// The book keeps its start, which is the first one. It costs what the node's call costs.
     ///
     /// # Errors
@@ -296,8 +295,8 @@ impl Book {
         Ok(())
     }
 
-    /// The bytes of a frame come, in version 1 or 2. The clock is one more than the greater of the clock before and the
-    /// frame's, and the frames and marks are those of the node's event, as [`Node::receive`] says.
+    /// The bytes of a frame come, in version 1 or 2. The new clock is the greater of the old clock and the frame's,
+    /// plus 1, and the frames and marks are those of the node's event, as [`Node::receive`] says.
     ///
     /// # Errors
     ///

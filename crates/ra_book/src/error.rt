@@ -6,7 +6,7 @@ use ra_stamp::Memory;
 use std::fmt;
 use thiserror::Error;
 
-/// Why an event was refused, in the order in which the causes are looked for.
+/// Why an event was refused. The causes are looked for in this order.
 #[derive(Clone, Copy, Debug, PartialEq, Eq, Error)]
 pub enum BookError {
     /// The book has a fault.
@@ -32,7 +32,7 @@ pub enum BookError {
 }
 
 impl fmt::Display for BookError {
-    /// Prints one word: that of the frame's fault, or the name of the variant.
+    /// Prints one word: the word of the frame's fault, or the name of the variant.
     fn fmt<W: fmt::Write>(&self, f: &mut fmt::Formatter<W>) -> fmt::Result {
         match self {
             BookError::Frame(fault) => fmt::Display::fmt(fault, f),
@@ -110,7 +110,7 @@ impl fmt::Display for MarkLostError {
     }
 }
 
-/// Why books did not settle, in the order in which the causes are looked for.
+/// Why books did not settle. The causes are looked for in this order.
 #[derive(Clone, Copy, Debug, PartialEq, Eq, Error)]
 pub enum SettleError {
     /// A frame came that is not among the frames that its sender sent and that were not lost.

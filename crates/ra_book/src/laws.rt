@@ -17,7 +17,7 @@ ghost use Rattle.ra_book.specs.declared.book.sent.Sent.{Sent};
 ghost use Rattle.ra_book.specs.History.{IsHistory, node_event, clock_after, clock_of, frames_at};
 ghost use Rattle.ra_book.specs.Book.{as_sent};
 
-/// A node that has met nothing has the empty history. A history goes on with each event of its node for which a clock
+/// A node that has met nothing has the empty history. A history goes on with each event of its node, as long as a clock
 /// is left; what the event sends comes after the frames so far.
 pub fn histories_go_on()
     ensures opening { (me n start : ℕ) → IsHistory me n start [] [] (opening_node me n start) }

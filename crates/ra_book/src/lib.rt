@@ -1,4 +1,4 @@
-//! The history of a node, and the run into which the histories of all nodes settle.
+//! The history of a node, and the run that the histories of all nodes settle into.
 //!
 //! A [`TimedNode`] is a node with an event clock, and no history. A node's book has the node, its event clock, what
 //! happened at it, and what it sent. [`settle`] makes one run of the cluster out of the books of all nodes, or says why

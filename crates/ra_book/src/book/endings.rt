@@ -25,7 +25,7 @@ pub enum Ending {
 }
 
 impl Ending {
-    /// Returns the event by which the request ends.
+    /// Returns the event that ends the request.
     fn kind(&self) -> BookKind
         ensures { result ≡ kind_of self.now }
     {
@@ -70,7 +70,7 @@ impl Ending {
 }
 
 impl Book {
-    /// Ends the request of a client. The clock is one more than before, and the frames and marks are those of the
+    /// Ends the request of a client. The clock rises by 1, and the frames and marks are those of the
     /// node's event. It does not allocate: the client's ask made room for it.
     ///
     /// # Errors

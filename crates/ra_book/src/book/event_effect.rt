@@ -7,6 +7,6 @@ pub struct Posted {
     /// The frames to send, each with the clock of the event, in this order: REPLYs before REQUESTs, each in ascending
     /// order of the nodes.
     pub frames: Frames,
-    /// What became of the clients' requests, in this order: Left, Requested, Entered.
+    /// What happened to the clients' requests, in this order: Left, Requested, Entered.
     pub marks: Marks,
 }

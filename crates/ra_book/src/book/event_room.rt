@@ -39,8 +39,8 @@ pub fn room_to_ask(
     Ok((frames, departure))
 }
 
-/// Makes room for one more event that sends at most this many messages, and after it for this many leaves at one of
-/// this many nodes. Returns a list for the frames that the event posts.
+/// Makes room for an event that sends at most this many messages, and after it for this many leaves at one of this many
+/// nodes. Returns a list for the frames that the event posts.
 ///
 /// # Errors
 ///

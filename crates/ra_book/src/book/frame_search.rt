@@ -26,8 +26,8 @@ pub fn place_of(sent: &[Sent], frame: &Frame) -> Option<usize>
 }
 
 /// Returns whether this frame is among those that were sent, and not flagged lost. A node sends the frames of one clock
-/// in the order of [`rank_of`]. If all are so and the frame is there, the cost is logarithmic in the number of the sent
-/// frames. Otherwise it is the cost of [`place_of`].
+/// in the order of [`rank_of`]. If all frames are in that order and this one is among them, the cost is logarithmic in
+/// the number of the sent frames. Otherwise it is the cost of [`place_of`].
 pub fn is_kept(sent: &[Sent], frame: &Frame) -> bool
     requires { Ascends sent.now }
     ensures { IsTrue result ↔ Contains sent.now (record { frame = frame.now; lost = false }) }
@@ -50,7 +50,7 @@ pub fn is_kept(sent: &[Sent], frame: &Frame) -> bool
     false
 }
 
-/// Returns the place before which each frame has a lesser clock than this one, or this clock and a rank below this one.
+/// Returns a place. Each frame before it has a lesser clock than this one, or this clock and a rank below this one.
 /// If the rank is not 0, and the frames of one clock are not in the order of [`rank_of`], it may be any place.
 fn place_before(sent: &[Sent], clock: u64, rank: u16) -> usize
     ensures { Ascends sent.now → rank ≡ 0 → (k : ℕ) (d : Sent) → k < result

@@ -1,6 +1,6 @@
 use ra_stamp::Entry;
 
-/// That a client was let in: its request was granted at its node.
+/// A client was let in: its request was granted at its node.
 #[derive(Clone, Copy, Debug, PartialEq, Eq)]
 pub struct Grant {
     /// The request.

@@ -6,7 +6,7 @@ use ra_stamp::Sequence;
 pub struct Sent {
     /// The frame.
     pub frame: Frame,
-    /// Whether it was lost on its way: it is known that it reached nobody.
+    /// Whether it was lost on its way: it is known that it did not arrive.
     pub lost: bool,
 }
 

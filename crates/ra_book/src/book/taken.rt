@@ -72,8 +72,8 @@ impl Taken {
     }
 }
 
-/// Returns the clock of the last of these events, which come after an event with this clock; if there are none, it is
-/// this clock.
+/// Returns the clock of the last of these events, which come after an event with this clock, or this clock if there are
+/// none.
 pub fn latest_of(clock: u64, events: &[BookEvent]) -> u64
     ensures { result ≡ clock_from clock events.now }
 {

@@ -9,8 +9,8 @@ ghost use Rattle.ra_book.specs.History.{IsHistory, clock_of};
 ghost use Rattle.ra_book.specs.Pairs.{AreFirstOf, PairsFit, come_from, sent_to};
 ghost use Rattle.ra_book.specs.Settled.{IsCluster};
 
-/// A history that is cut after some events is a history of the node, too, with the first of the frames: those with
-/// clocks up to that of the last of these events. The other frames have greater clocks.
+/// A history that is cut after some events is a history of the node, too, with the first of the frames: those whose
+/// clocks are at most the clock of the last of these events. The other frames have greater clocks.
 pub fn histories_can_be_cut()
     ensures { (me n start : ℕ) (events later : List BookEvent) (sent : List Sent) (node : NodeState)
         → IsHistory me n start (events ++ later) sent node

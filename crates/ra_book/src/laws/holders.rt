@@ -1,4 +1,4 @@
-//! Who holds what by the books. The function does nothing, and its contract is the law.
+//! Which client holds what, as the books tell it. The function does nothing, and its contract is the law.
 ghost use Rattle.std.specs.Prelude.{◌≡◌, ◌≢◌, ℕ, List, Some, All, Contains};
 ghost use Rattle.ra_stamp.specs.declared.entry.Entry.{Entry};
 ghost use Rattle.ra_stamp.specs.Mode.{Conflict};

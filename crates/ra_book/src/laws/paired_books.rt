@@ -19,9 +19,9 @@ pub fn paired_books_fit()
         → (moves : List Move) × IsSettledRun books moves }
 {}
 
-/// After a settled run of books of which the pairs fit, a message is under way exactly if a node sent it to another one
-/// and it has not come there. So if all that was sent has come, the run is quiet at its end: nothing was lost, and
-/// nothing is under way. Each report of it says so.
+/// After a settled run of books whose pairs fit, a message is under way exactly if a node sent it to another one and it
+/// has not come there. So if all that was sent has come, the run is quiet at its end: nothing was lost, and nothing is
+/// under way. Each report of it says so.
 pub fn what_has_not_come_is_under_way()
     ensures under_way { (books : List BookState) (moves : List Move) (message : Message) → IsCluster books
         → All HasHistory books → PairsFit books → IsSettledRun books moves

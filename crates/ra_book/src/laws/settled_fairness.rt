@@ -1,4 +1,4 @@
-//! Who overtakes a waiting request in a settled run. The function does nothing, and its contract is the law.
+//! Which requests overtake a waiting one in a settled run. The function does nothing, and its contract is the law.
 ghost use Rattle.std.specs.Prelude.{List, All, length};
 ghost use Rattle.ra_world.specs.Fairness.{IsFair};
 ghost use Rattle.ra_world.specs.Traffic.{Move};

@@ -1,4 +1,4 @@
-//! Books to which frames came more than once, in one run.
+//! Books with frames that came more than once, in one run.
 ghost use Rattle.std.specs.Prelude.{◌≡◌, ◌↔◌, ◌∷◌, [], List, MatchResult, OnOk, IfOk, IsErrOf, IsOkUnless, map, length, reverse};
 ghost use Rattle.ra_world.specs.Traffic.{Move};
 ghost use Rattle.ra_world.specs.World.{Reports};
@@ -55,14 +55,14 @@ fn steps_back(alloc: Global, books: &[Book]) -> Result<Vec<Step>, Memory>
     let mut back = Vec::new(alloc);
     let mut later = BTreeSet::new(alloc);
     for turn in 0..events.len() {
-        // From the last one on.
+        // From the last event back.
         push_back(&mut back, &mut later, &events[events.len() - 1 - turn])?;
     }
     Ok(back)
 }
 
-/// Returns the steps of the events of all books in the settled order, with copies: directly before each by which a
-/// frame comes that comes by a later one again, a repeat of its message. The cost is n log n, and k n for k books.
+/// Returns the steps of the events of all books in the settled order, with copies: if an event brings a frame that a
+/// later event brings again, a repeat of its message is directly before it. The cost is n log n, and k n for k books.
 fn steps_with_copies(alloc: Global, books: &[Book]) -> Result<Steps, Memory>
     requires { IsCluster books.now }
     ensures { IfOk result
@@ -77,7 +77,7 @@ fn steps_with_copies(alloc: Global, books: &[Book]) -> Result<Steps, Memory>
     Ok(steps)
 }
 
-/// Settles books to which only frames came that were sent.
+/// Settles books if only frames came that were sent.
 ///
 /// # Errors
 ///
@@ -94,12 +94,12 @@ fn run_with_copies(alloc: Global, books: &[Book]) -> Result<Settled, SettleError
     run_steps(alloc, books, steps)
 }
 
-/// Settles the books of a cluster, none of whose frames is flagged lost, into one run of it, also if frames came more
-/// than once. The run has the events of all books by clock, and then by node. If an event gets a frame that comes again
-/// later, a repeat of the frame's message is directly before that event. So a frame that comes n times is repeated
-/// n - 1 times. Frames with two clocks are two frames, even if they carry the same message. Unless memory runs out,
-/// books settle exactly if each frame that came was sent. With n events and frames sent and k books, the cost is that
-/// of the run, plus n log n and k n; memory is linear in n.
+/// Settles the books of a cluster into one run of it, even if frames came more than once. No frame may be flagged lost.
+/// The run has the events of all books by clock, and then by node. If an event gets a frame that comes again later, a
+/// repeat of the frame's message is directly before that event. So a frame that comes n times is repeated n - 1 times.
+/// Frames with two clocks are two frames, even if they carry the same message. Unless memory runs out, books settle
+/// exactly if each frame that came was sent. With n events and frames sent and k books, the cost is that of the run,
+/// plus n log n and k n; memory is linear in n.
 ///
 /// # Errors
 ///

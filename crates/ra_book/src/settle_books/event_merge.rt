@@ -11,7 +11,7 @@ use ra_stamp::{Memory, NodeId, Sequence};
 use ra_world::{Step, Steps};
 use std::alloc::Global;
 
-/// An event, and the node at which it happened.
+/// An event and its node.
 #[derive(Clone, Copy)]
 pub struct PlacedEvent {
     pub node: NodeId,
@@ -54,8 +54,8 @@ pub fn steps_in_order(alloc: Global, books: &[Book]) -> Result<Steps, Memory>
     Ok(steps)
 }
 
-/// Returns the events of all books, by clock and then by node, with their nodes. The cost is that of
-/// [`steps_in_order`].
+/// Returns the events of all books, by clock and then by node, with their nodes. It costs what [`steps_in_order`]
+/// costs.
 pub fn events_in_order(alloc: Global, books: &[Book]) -> Result<Sequence<PlacedEvent>, Memory>
     requires { IsCluster books.now }
     ensures { IfOk result (λ events. IsSettledOrder books.now (all_placed_at events.items)) }
@@ -116,7 +116,7 @@ fn first_head(nexts: &[Next]) -> Option<Head>
     first
 }
 
-/// Returns the first one, unless there is none or the other one has a lesser clock.
+/// Returns the first one, unless it is missing or the other one has a lesser clock.
 fn lesser_of(first: Option<Head>, other: Head) -> Head
     ensures { result ≡ spec.lesser_of first other }
 {

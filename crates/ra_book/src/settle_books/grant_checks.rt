@@ -1,4 +1,4 @@
-//! That each grant is of a request that was granted, and occurs once.
+//! Whether each grant is of a request that was granted, and occurs once.
 ghost use Rattle.std.specs.Prelude.{◌≢◌, All, AllPairs, Contains, MatchResult};
 ghost use Rattle.ra_stamp.specs.declared.entry.Mark.{Mark};
 ghost use Rattle.ra_book.specs.SettlingParts.{RefusesGrants, RefusesRepeats};

@@ -1,4 +1,4 @@
-//! Requests, messages and frames as keys, by which sets order them and look them up: their own types have no order that
+//! Requests, messages and frames as keys, which sets order and look up: their own types have no order that
 //! means anything.
 ghost use Rattle.std.specs.Prelude.{◌≡◌};
 ghost use Rattle.ra_book.specs.Keys as spec;

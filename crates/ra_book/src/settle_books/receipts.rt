@@ -1,4 +1,4 @@
-//! That what came was sent, and came once.
+//! Whether each frame that came was sent, and came once.
 ghost use Rattle.std.specs.Prelude.{◌≢◌, ◌↔◌, All, AllPairs, map, IfOk, IsTrue, MatchBool, MatchResult};
 ghost use Rattle.ra_book.specs.Settled.{IsCluster, BooksFit, HasTwice, HasUnsent, WasSent, all_received};
 ghost use Rattle.ra_book.specs.SettlingParts.{RefusesReceived};

@@ -1,6 +1,6 @@
 use ra_world::{Report, Steps};
 
-/// The one run of the cluster into which books settle.
+/// The one run of the cluster that books settle into.
 #[derive(Drop)]
 pub struct Settled {
     /// The events of all books by clock, and then by node. [`settle`](crate::settle) puts after them the loss of each

@@ -12,7 +12,7 @@ use Rattle.ra_book.proofs.KeySets.{when_new, when_old}
 use Rattle.ra_book.proofs.CopiesBack.{none_by, come_same, come_more, comes, comes_not, none_in_front, last_in_front, copy_in_front}
 use Rattle.ra_book.proofs.settle_books.copies.push_back.Goals as goal
 
--- the key of a frame has that of its message
+-- the key of a frame contains the key of its message
 key_is : (frame : Frame) (key : OrderKey) → key ≡ message_key frame.message → (frame.clock, key) ≡ frame_key frame
 key_is frame key is = ap (λ (k : OrderKey). (frame.clock, k)) is
 

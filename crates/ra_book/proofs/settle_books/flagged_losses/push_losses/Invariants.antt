@@ -10,6 +10,6 @@ abbrev pub invariant-loop-book : goal.invariant-loop-book
 invariant-loop-book l =
     (l.steps.items ≡ l.initial.steps.items ++ map (λ m. Lose m) (all_lost (take l.book-index l.books))) × All HasHistory (take l.book-index l.books)
 
--- and those of the frames of one more book so far
+-- and the losses among the frames so far of another book
 abbrev pub invariant-loop-place : goal.invariant-loop-place
 invariant-loop-place l = l.steps.items ≡ l.initial.steps.items ++ map (λ m. Lose m) (lost_among (take l.place l.book.sent))

@@ -7,7 +7,7 @@ use Rattle.ra_book.proofs.settle_books.receipts.has_no_duplicates.Given as goal
 abbrev pub invariant-loop-book : goal.invariant-loop-book
 invariant-loop-book l = HasEach l.came (map (λ f. f.message) (all_received (take l.book-index l.books)))
 
--- and those by the events so far of one more book
+-- and those in the events so far of another book
 abbrev pub invariant-loop-event : goal.invariant-loop-event
 invariant-loop-event l =
     HasEach l.came (map (λ f. f.message) (all_received (take l.book-index l.books)) ++ messages_among (take l.event-index l.events))
