@@ -111,11 +111,11 @@ checked format bytes v e =
 ends_before : (mode len rest : ℕ) → len ≡ mode + 18 + rest → mode + 9 + 8 ≤ len
 ends_before mode len rest e = grind (arith)
 
--- the bytes of the clock are there
+-- the bytes of the clock are present
 pub clock_is_there : (format : Format) (bytes : List ℕ) (mode : ℕ) → mode ≡ mode_place format → IsChecked format bytes → mode + 9 + 8 ≤ length bytes
 clock_is_there format bytes mode e all = ends_before mode (length bytes) (slice_index bytes (mode_place format + 17)) (subst (λ m. length bytes ≡ m + 18 + slice_index bytes (mode_place format + 17)) (sym e) all.long)
 
--- a name that is told by its bytes alone
+-- a name that is determined by its bytes alone
 pub name_passes : (name : List ℕ) (r : Bool) → 1 ≤ length name → length name ≤ 32 → (r ≡ true → IsName name) → (IsName name → r ≡ true) → r ≡ list_all is_name_byte name
 name_passes name true low high to from = sym (list_all-from_AllPass is_name_byte name (to refl).each)
 name_passes name false low high to from =
@@ -135,7 +135,7 @@ not_above {a} {b} h = grind (arith, nat_tests)
 
 -- ---- The checks in groups
 
--- the first fault of some checks is that of all
+-- the first fault of some checks is the first fault of all
 ahead_by : (short right : Bool) (some all : Option FrameError) (check : Check) (fault : FrameError) → (some ≡ Some fault → all ≡ Some fault) → cond short (Some Short) (cond right some (Some check.fault)) ≡ Some fault
     → cond short (Some Short) (cond right all (Some check.fault)) ≡ Some fault
 ahead_by true right some all check fault behind e = e
@@ -147,7 +147,7 @@ fault_ahead len [] behind fault e = absurd cc
 fault_ahead len (check ∷ checks) behind fault e =
     ahead_by (nat_lt len check.end) check.is_right (first_failing len checks) (first_failing len (checks ++ behind)) check fault (fault_ahead len checks behind fault) e
 
--- if some checks pass, the first fault is that of the others
+-- if some checks pass, the first fault is the first one of the others
 behind_by : (short right : Bool) (some all others : Option FrameError) (check : Check) → (some ≡ None → all ≡ others) → cond short (Some Short) (cond right some (Some check.fault)) ≡ None
     → cond short (Some Short) (cond right all (Some check.fault)) ≡ others
 behind_by true right some all others check behind e = absurd cc

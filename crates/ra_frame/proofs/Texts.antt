@@ -34,7 +34,7 @@ spelled format kind from to rest = version_byte format ∷ kind ∷ (node_bytes 
 abbrev pub IsBytes : List ℕ → Type 0
 IsBytes bytes = (i : ℕ) → get_or bytes i 0 < 256
 
--- eight bytes are those of their number
+-- eight bytes are the bytes of their number
 eight_again : (bytes : List ℕ) → length bytes ≡ 8 → IsBytes bytes → to_be_bytes w64 (from_be_bytes w64 bytes) ≡ bytes
 eight_again bytes len fits = be_bytes_8 bytes _ len fits refl
 
@@ -253,9 +253,9 @@ mode_back SharedIntentExclusive = refl
 same_mode : (a b : Mode) → mode_byte a ≡ mode_byte b → a ≡ b
 same_mode a b e = sym (mode_back a) ∙ (ap mode_in e ∙ mode_back b)
 
--- ---- A text stands for one frame.
+-- ---- A text means one frame.
 
--- a text stands for one message at one clock, in one version
+-- a text means one message at one clock, in one version
 one_message : (format : Format) (bytes : List ℕ) (clock clock' : ℕ) (a b : Message) → IsMessageText format bytes clock a → IsMessageText format bytes clock' b → (clock ≡ clock') × (a ≡ b)
 one_message format bytes clock clock' (Request from to name mode seq) (Request from' to' name' mode' seq') h k =
     let r = reads format bytes 1 from to (mode_byte mode) seq clock name h in
@@ -291,7 +291,7 @@ version_of_text format bytes clock (Reply from to name seq) h = (reads format by
 same_version : {a b : Format} {r : Result Format FrameError} → r ≡ Ok a → r ≡ Ok b → b ≡ a
 same_version {a} {b} {r} h k = cc
 
--- a text stands for one frame
+-- a text means one frame
 pub one_frame : (bytes : List ℕ) (a b : Frame) → IsFrameText bytes a → IsFrameText bytes b → a ≡ b
 one_frame bytes a b h k =
     let version : k.0 ≡ h.0 = same_version (version_of_text h.0 bytes a.clock a.message h.1) (version_of_text k.0 bytes b.clock b.message k.1) in

@@ -1,4 +1,4 @@
--- The checks in the groups in which they are made, and what holds if all of them pass. No public contract speaks of it.
+-- The checks, grouped as they are made, and what holds if all of them pass. No public contract speaks of it.
 use Rattle.std.specs.Prelude.{◌≡◌, ◌⊎◌, ℕ, ◌+◌, ◌^◌, ◌≤◌, true, List, length, take, drop, slice_index, slice_range}
 use Rattle.std.specs.List.{list_all}
 use Rattle.ra_stamp.specs.Name.{is_name_byte}

@@ -74,6 +74,6 @@ abbrev pub fault_by : Result Format FrameError → List ℕ → Option FrameErro
 fault_by (Err fault) bytes = Some fault
 fault_by (Ok format) bytes = first_fault_of format bytes
 
--- the fault of the bytes: that of the first field, in order, that is short or not right, or None if all are right
+-- the fault of the bytes: the fault of the first field, in order, that is short or not right, or None if all are right
 abbrev pub first_fault : List ℕ → Option FrameError
 first_fault bytes = fault_by (format_of bytes) bytes

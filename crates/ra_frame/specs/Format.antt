@@ -27,7 +27,7 @@ to_place format = 2 + node_width format
 abbrev pub mode_place : Format → ℕ
 mode_place format = 2 + node_width format + node_width format
 
--- where each field begins, from the version to the name
+-- the place at which each field begins, from the version to the name
 abbrev pub places : Format → List ℕ
 places format =
     let mode = mode_place format in

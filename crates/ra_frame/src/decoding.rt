@@ -61,7 +61,7 @@ fn are_name_bytes(name: &[u8]) -> bool
 /// # Errors
 ///
 /// 1. `Short`: there is no byte.
-/// 2. `Version`: it is that of no version.
+/// 2. `Version`: it is not the number of a version.
 pub fn format_of(bytes: &[u8]) -> Result<Format, FrameError>
     ensures { result ≡ spec.format_of bytes.now }
 {
@@ -204,8 +204,8 @@ fn message_of(format: Format, bytes: &[u8]) -> Message
 ///
 /// # Errors
 ///
-/// The fields are looked at in their order, and the first that is not right is named. One with a byte missing is
-/// `Short` at its place in that order; the name is one field, and is looked at once all of it is there.
+/// The fields are looked at in their order, and the first that is not right is named. A field with a byte missing is
+/// `Short` at its place in that order; the name is one field, and is looked at once all of it is present.
 ///
 /// 1. `Version`: the version is neither 1 nor 2.
 /// 2. `Kind`: the kind is neither 1 nor 2.

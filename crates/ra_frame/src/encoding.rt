@@ -14,7 +14,7 @@ pub const MAX_FRAME: usize = 56;
 /// The bytes of a frame, which need no allocation.
 pub type FrameBytes = ArrayVec<u8, MAX_FRAME>;
 
-/// Returns the bytes of a frame that fits, in version 2: 24 and those of its name. It does not allocate.
+/// Returns the bytes of a frame that fits, in version 2: 24, plus the bytes of its name. It does not allocate.
 pub fn encoded(frame: &Frame) -> FrameBytes
     requires { Fits frame.now }
     ensures { IsWrittenText result.items frame.now }
@@ -40,7 +40,7 @@ pub fn encoded(frame: &Frame) -> FrameBytes
     bytes
 }
 
-/// Adds bytes to those of a frame, which have room for them.
+/// Adds bytes to the bytes of a frame, which have room for them.
 fn put(bytes: &mut FrameBytes, more: &[u8])
     requires { length bytes.old.items + length more.now ≤ 56 }
     ensures { bytes.new.items ≡ bytes.old.items ++ more.now }

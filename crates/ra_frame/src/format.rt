@@ -39,9 +39,9 @@ impl Format {
         }
     }
 
-    /// Returns where each field of a frame begins, in bytes counted from 0: the version, the kind, the sender, the
-    /// receiver, the mode, the sequence number, the clock, the length of the name, and the name. A field ends where the
-    /// next one begins, and the name has its length. It does not allocate.
+    /// Returns the place at which each field of a frame begins, in bytes counted from 0: the version, the kind, the
+    /// sender, the receiver, the mode, the sequence number, the clock, the length of the name, and the name. A field
+    /// ends where the next one begins, and the name has its length. It does not allocate.
     pub fn places(self) -> [usize; 9]
         ensures { result ≡ spec.places self }
     {

@@ -1,4 +1,4 @@
-//! Frames: messages as bytes, with the clock at which they are sent. Both versions of the format are read, and version
+//! Frames: messages as bytes, with the clock of their sending. Both versions of the format are read, and version
 //! 2 is written.
 #![tactic(auto)]
 
