@@ -148,7 +148,7 @@ module _ {S E : Type 0} (me nodes start : ℕ) (slots slots' : HashMap (List ℕ
 pub nobody_holds : (r : Resource) (me nodes : ℕ) (name : List ℕ) (start : ℕ) → r ≡ unmet me nodes name start → (client : ℕ) (entry : Entry) → Holds r client entry → ⊥
 nobody_holds r me nodes name start is client entry held = none-some entry (sym (ap holder_of is) ∙ held.granted)
 
--- nor does anybody wait for it
+-- and nobody waits for it
 pub nobody_kept : (r : Resource) (me nodes : ℕ) (name : List ℕ) (start : ℕ) → r ≡ unmet me nodes name start → (client : ℕ) → IsKeptWaiting r client → ⊥
 nobody_kept r me nodes name start is client kept = elim kept [
   | inl waits ↦ none-some waits.0 (sym (ap waiter_of is) ∙ waits.1.requested)

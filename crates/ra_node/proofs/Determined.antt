@@ -1,4 +1,4 @@
--- A state and an event decide what comes of it.
+-- A state and an event determine the outcome.
 use Rattle.std.proofs.Common.{◌≡◌, ℕ, suc, ◌<◌, ◌≤◌, ◌⊎◌, Bool, true, false, List, [], ◌∷◌, ◌++◌, Any, refl, sym, ap, ◌∙◌, subst, arith, inl, inr}
 use Rattle.std.specs.FinSet as set
 use Rattle.ra_stamp.specs.declared.entry.Entry.{Entry}

@@ -53,7 +53,7 @@ busy_is r c = (
 
 -- ---- Who asks and who leaves
 
--- a client that is not in a list is none of its elements
+-- a client that is not in a list differs from each of its elements
 apart : (cs : List ℕ) (c : ℕ) → (Contains cs c → ⊥) → (k d : ℕ) → k < length cs → get_or cs k d ≢ c
 apart cs c free k d lt e = free (k, lt, get_or_default cs k c d lt ∙ e)
 
@@ -112,7 +112,7 @@ gone_apart [] c after h at = first_apart c after h at
 gone_apart (x ∷ xs) c after h (zero, lt, e) = first_apart x (xs ++ c ∷ after) h (subst (λ (y : ℕ). Contains (xs ++ c ∷ after) y) (sym e) (there_before xs after c))
 gone_apart (x ∷ xs) c after h (suc k, lt, e) = gone_apart xs c after (rest_once x (xs ++ c ∷ after) h) (k, omega (arith, lt), e)
 
--- a client that is taken out of a queue is not in it any more, and the others are there once
+-- a client that is taken out of a queue is not in it any more, and each of the others is in it once
 pub taken_apart : (before : List Queued) (gone : Queued) (after : List Queued) → Once (map (λ q. q.client) (before ++ gone ∷ after)) → Contains (map (λ q. q.client) (before ++ after)) gone.client → ⊥
 taken_apart before gone after h at =
     gone_apart (map (λ q. q.client) before) gone.client (map (λ q. q.client) after)

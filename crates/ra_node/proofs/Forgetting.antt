@@ -1,4 +1,4 @@
--- What becomes of the slots of a node, and of the node, when it forgets names.
+-- How the slots of a node, and the node, change when it forgets names.
 use Rattle.std.proofs.Common.{◌≡◌, ◌⊎◌, ◌↔◌, ℕ, zero, suc, ◌/◌, ◌^◌, ◌<◌, ◌≤◌, max, Bool, true, false, ◌&&◌, T, cond, List, [], ◌∷◌, ◌++◌, All, length, get_or, map, Option, Some, None, IsSome, refl, sym, ap, ◌∙◌, subst, arith, inl, inr}
 use Rattle.std.specs.Prelude.{nat_lt, sum_by, unwrap_or, option_to_list}
 use Rattle.std.specs.Str.{bytes_eq}
@@ -219,7 +219,7 @@ reaches number (e ∷ es) q r at =
       | false ↦ λ is. reaches (max number (if_counted e.1.state.highest)) es q r is
     ] at
 
--- the greatest number is the first one, or that of a slot
+-- the greatest number is the first one, or the number of a slot
 record OfSlot (es : List (List ℕ × Resource)) (number : ℕ) : Type 0 where
   name : List ℕ
   slot : Resource

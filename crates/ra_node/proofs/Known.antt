@@ -133,7 +133,7 @@ parts_at (q ∷ qs) (suc k) x lt is =
 
 -- ---- All are learned
 
--- the box in which they are, if there was memory for it
+-- the box that has them, if there was memory for it
 pub boxed : {B M E : Type 0} (made : Result B E) (found : Option B) (value : B → M) (P : M → Type 0) (known : M) → IfOk made (λ b. value b ≡ known) → found ≡ result_ok made → P known → IfSome found (λ b. P (value b))
 boxed (Ok b) found value P known made found_is h = subst (λ (o : Option _). IfSome o (λ b. P (value b))) (sym found_is) (subst P (sym made) h)
 boxed (Err e) found value P known made found_is h = subst (λ (o : Option _). IfSome o (λ b. P (value b))) (sym found_is) tt

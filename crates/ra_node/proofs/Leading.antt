@@ -18,7 +18,7 @@ use Rattle.ra_node.proofs.Endings.{AreEnded, leaves_ended, withdraws_ended}
 use Rattle.ra_node.specs.Carried.{MarksLead}
 use Rattle.ra_node.proofs.Uses.{holder_holds, waiter_waits}
 
--- nobody uses a resource of which the node is idle
+-- nobody uses a resource if its node is idle
 idle_is_free : (s : State) (client : Option ℕ) → use_in s Idle client ≡ Nobody
 idle_is_free s None = refl
 idle_is_free s (Some client) = refl
@@ -44,7 +44,7 @@ request_leads : (entered : Bool) (e : Entry) (after : Use) → after ≡ made en
 request_leads false e after is = (refl, is)
 request_leads true e after is = (refl, (refl, is))
 
--- an ask at an idle node leads from nobody
+-- before an ask at an idle node, nobody uses the resource
 asking_leads : (old : Resource) (client : ℕ) (mode : Mode) (sends : List Message) (marks : List Mark) (new : Resource) → AsksAtOnce old client mode sends marks new → MarksLead Nobody marks (use_of new)
 asking_leads old client mode sends marks new asks =
     let e = next_entry old client mode in
@@ -96,7 +96,7 @@ same_in s t (Inside seq mode) (Some client) me name = λ i. HoldsBy (entry_of (m
 same_use : (s t : State) (client : Option ℕ) → s.me ≡ t.me → s.name ≡ t.name → s.phase ≡ t.phase → use_in s s.phase client ≡ use_in t t.phase client
 same_use s t client me name phase = same_in s t s.phase client me name ∙ ap (λ (p : Phase). use_in t p client) phase
 
--- a message that lets nobody enter leaves the use
+-- a message that lets nobody enter does not change who uses the resource
 use_stays : (old : State) (message : Message) (sends : List Message) (new : State) (client : Option ℕ) → ReceiveStep old message sends false new → use_in new new.phase client ≡ use_in old old.phase client
 use_stays old (Request from to name mode seq) sends new client step =
     elim step.1 [

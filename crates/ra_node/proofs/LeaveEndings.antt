@@ -67,7 +67,7 @@ module _ (Ends : Entry → List Message → Resource → Type 0) (mark : Entry �
         marks_are = marks-are;
       })
 
-  -- what the call did by which the next client asks
+  -- what the call did with which the next client asks
   pub ended_to_next : {E : Type 0} (result : Result Outcome E) (new : Resource) (next : Queued) (before : List Mark) (Refused Refused' : E → Type 0) → Once (clients_of old) → before ≡ mark entry ∷ [] → ((fault : E) → Refused fault → Refused' fault)
       → MatchResult result (λ o. IsHandedOver (Step old.state) old next o.sends.items before o.marks.items new × IsConsistent new.state) (λ fault. Refused fault × (new ≡ old))
       → MatchResult result (λ o. EndTurn Ends mark old o.sends.items o.marks.items new × IsConsistent new.state) (λ fault. Refused' fault × (new ≡ old))

@@ -1,4 +1,4 @@
--- A node by its slots, and what becomes of it if one of them changes or comes.
+-- A node by its slots, and how it changes if a slot changes or is added.
 use Rattle.std.proofs.Common.{◌≡◌, ℕ, ◌≤◌, List, cond, Option, Some, None, IsNone, IfSome, Bor, sym, ap, ◌∙◌, subst, inl, inr}
 use Rattle.std.specs.Prelude.{unwrap_or}
 use Rattle.std.specs.Option.{option_copied}

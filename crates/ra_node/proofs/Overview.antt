@@ -1,4 +1,4 @@
--- The names and the granted requests of a node's slots, as those of the node, in the order of the names.
+-- The names and the granted requests of a node's slots are the node's, in the order of the names.
 use Rattle.std.proofs.Common.{◌≡◌, ◌↔◌, ◌⊎◌, ℕ, ◌+◌, true, false, List, [], ◌∷◌, map, Option, Some, None, Result, Ok, Err, IfOk, IsSome, refl, sym, ap, ◌∙◌, subst, arith, inl, inr}
 use Rattle.std.specs.Prelude.{Contains, filter_map, get_or, unwrap_or, IsPermutation, IsSorted, IsSortedByKey}
 use Rattle.std.specs.List.{cons_option, AllByRecursion, IsDistinct}
@@ -45,7 +45,7 @@ less a b later differ =
       | Greater ↦ λ is. absurd (false≢true (sym later ∙ ap is_lt (nat_list_cmp_total.antisymm b a ∙ ap ordering_reverse is)))
     ] refl
 
--- names that were sorted, and of which no two are equal, rise
+-- names that were sorted rise if no two are equal
 rising : (names : List (List ℕ)) → IsSorted (slice_cmp nat_cmp) names → IsDistinct bytes_eq names → IsStrictlySortedBy (slice_cmp nat_cmp) names
 rising names up distinct =
     sorted_from_all_adjacent nat_list_cmp_total names [] (λ k within.

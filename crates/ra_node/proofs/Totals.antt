@@ -1,4 +1,4 @@
--- Sums over all names, and what becomes of them if the resource of one name changes.
+-- Sums over all names, and how they change if the resource of one name changes.
 use Rattle.std.proofs.Common.{◌≡◌, ℕ, ◌+◌, ◌*◌, ◌/◌, ◌^◌, ◌≤◌, Bool, true, false, cond, List, [], ◌∷◌, length, Option, Some, None, Result, Ok, Err, MatchResult, refl, sym, ap, ◌∙◌, subst, arith}
 use Rattle.std.specs.Prelude.{sum_by, unwrap_or}
 use Rattle.std.specs.Str.{bytes_eq}
@@ -30,7 +30,7 @@ sum_over f m = sum_by (λ e. f e.1) (finmap.entries m)
 
 -- ---- One name
 
--- to put a resource at the place at which another one was taken out is to put it over that one
+-- to put a resource where another one was taken out is to replace that one
 put_over : (m : Names) (name : List ℕ) (r : Resource) → finmap.insert (finmap.remove m name) name r ≡ finmap.insert m name r
 put_over m name r =
     finmap.same_map nat_list_cmp_total same_names _ _ (λ q.

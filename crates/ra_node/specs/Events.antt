@@ -103,7 +103,7 @@ abbrev pub AllowsEvent : NodeState → Event → Type 0
 AllowsEvent old event = (sends : List Message) × (marks : List Mark) × (new : NodeState)
     × NodeEvent old event sends marks new
 
--- an event, and what came of it: the messages that it sent and its marks
+-- an event, with the messages that it sent and its marks
 pub record Happening : Type 0 where
   pub event : Event
   pub sends : List Message

@@ -8,7 +8,7 @@ use Rattle.ra_stamp.specs.NodeId.{IsNodeNumber}
 use Rattle.ra_node.specs.Resource.{Resource, unmet, waiting_at, clients_of, IsConsistentResource}
 
 -- the node's number, how many nodes there are, the highest number with which each resource starts, and the resources
--- that a client or a REQUEST has been about
+-- that a client has asked for or a REQUEST has named
 pub record NodeState : Type 0 where
   pub me : ℕ
   pub nodes : ℕ

@@ -7,7 +7,7 @@ use Rattle.ra_node.specs.declared.queued_client.Queued.{Queued}
 abbrev pub AreApart : List Queued → Type 0
 AreApart queue = AllPairs (λ a b. a ≢ b) (map (λ queued. queued.client) queue)
 
--- the client was taken out of the queue, in which the others keep their order, or was not queued
+-- the client was taken out of the queue, and the others keep their order; or it was not queued
 abbrev pub TakesOut : List Queued → ℕ → Bool → List Queued → Type 0
 TakesOut old client true new = (before : List Queued) × (gone : Queued) × (after : List Queued)
     × (gone.client ≡ client) × (old ≡ before ++ gone ∷ after) × (new ≡ before ++ after)

@@ -13,7 +13,7 @@ pub record HasRoomToLeave (nodes : ℕ) (outcome : Outcome) : Type 0 where
   pub sends : 2 * nodes ≤ outcome.sends.spare
   pub marks : 3 ≤ outcome.marks.spare
 
--- the answer of a call to which an outcome was lent, with this outcome if it is Ok
+-- the answer of a call that was lent an outcome, with this outcome if it is Ok
 abbrev pub answer_with : {T E : Type 0} → Result T E → Outcome → Result Outcome E
 answer_with (Ok v) outcome = Ok outcome
 answer_with (Err fault) outcome = Err fault

@@ -107,8 +107,8 @@ EndTurn Ends mark old sends marks new =
 abbrev pub LeaveTurn : Resource → ℕ → List Message → List Mark → Resource → Type 0
 LeaveTurn old client sends marks new = EndTurn (Leaves old client) Left old sends marks new
 
--- a client that is queued, and does not wait, leaves the queue, in which the others keep their order; nothing is sent
--- or marked
+-- a client that is queued, and does not wait, leaves the queue, and the others keep their order; nothing is sent or
+-- marked
 pub record LeavesQueue (old : Resource) (client : ℕ) (sends : List Message) (marks : List Mark)
     (new : Resource) : Type 0 where
   pub before : List Queued

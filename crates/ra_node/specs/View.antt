@@ -55,7 +55,7 @@ abbrev pub is_nothing : List Queued → Bool
 is_nothing [] = true
 is_nothing (q ∷ qs) = false
 
--- whether nothing but its highest number need be kept of the resource
+-- whether only the highest number of the resource need be kept
 abbrev pub is_forgettable : Resource → Bool
 is_forgettable r =
     is_idle r.state.phase && (is_nobody r.client && (is_nothing r.queue && nat_lt r.state.highest greatest_number))

@@ -74,7 +74,7 @@ pub fn events_keep_a_node_consistent()
         (use_of (resource_at new (name_of_event event))) }
 {}
 
-/// Events of a node, one after the other, lead from a consistent node to a consistent one, and so do those of a node
+/// Events of a node, one after the other, lead from a consistent node to a consistent one. They may begin at a node
 /// that had met nothing. The node's identity does not change, and its start rises only if it forgets. Whether each
 /// event is for this node may be judged by the node as it was at first.
 pub fn histories_keep_a_node_consistent()

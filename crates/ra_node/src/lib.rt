@@ -41,7 +41,7 @@
 //! waiting forever. Neither a lost message nor a repeated one ever lets in two conflicting clients. Nothing is promised
 //! if a message is changed or invented, or if a node comes back with an empty state.
 //!
-//! A node has no event clock. If the frames of its messages carry one, as those of `ra_frame` do, the host keeps it.
+//! A node has no event clock. If the frames of its messages carry one, as frames of `ra_frame` do, the host keeps it.
 //!
 //! Each refusal leaves the node as it was. After a refusal for lack of memory the call can be made again.
 #![tactic(auto)]

@@ -443,7 +443,7 @@ impl Node {
     }
 
     /// Returns the requests that are granted at this node, in ascending order of the bytes of their names. The cost is
-    /// linear in the number of names that the node keeps, and that of sorting those that are held.
+    /// linear in the number of names that the node keeps, plus that of sorting the held ones.
     ///
     /// # Errors
     ///

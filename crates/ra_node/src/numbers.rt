@@ -7,8 +7,7 @@ use crate::slot::Slot;
 use ra_stamp::Name;
 use std::collections::HashMap;
 
-/// Returns the greatest of the start and the highest numbers of the slots, of those below 2^64-1, or 0 if there is
-/// none.
+/// Returns the greatest of the start and the slots' highest numbers, without those at 2^64-1, or 0 if none is left.
 pub fn common_number(start: u64, slots: &HashMap<Name, Slot>) -> u64
     ensures { result ≡ greatest_of (if_counted start) (values slots.now) }
 {

@@ -10,7 +10,7 @@ use std::alloc::Global;
 pub struct Outcome {
     /// The messages to send, in this order: REPLYs before REQUESTs, each in ascending order of the nodes.
     pub sends: Messages,
-    /// What became of the clients' requests, in this order: Left or Withdrawn, Requested, Entered.
+    /// What happened to the clients' requests, in this order: Left or Withdrawn, Requested, Entered.
     pub marks: Marks,
 }
 

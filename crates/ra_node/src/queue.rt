@@ -13,8 +13,8 @@ use std::marker::Model;
 /// If no more clients than these are queued, they are looked through.
 const MAX_LINEAR_SCAN: usize = 16;
 
-/// The clients of a long queue as keys, in any order. They are behind a pointer, since most queues are short and have
-/// none.
+/// The clients of a long queue as keys, in any order. They are kept through a pointer, since most queues are short and
+/// have no such keys.
 type Known = Box<HashMap<u32, ()>>;
 
 /// A queue of clients, the first one next. Contracts see the list.

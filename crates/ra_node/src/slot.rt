@@ -162,7 +162,7 @@ impl Slot {
     ///
     /// # Errors
     ///
-    /// The first that holds, after which the resource is as before:
+    /// The first that holds; the resource is then as before:
     ///
     /// 1. `Busy`: the client waits, is queued or holds here.
     /// 2. `Exhausted`: no number is left.
@@ -214,7 +214,7 @@ impl Slot {
     ///
     /// # Errors
     ///
-    /// The first that holds, after which the resource is as before:
+    /// The first that holds; the resource is then as before:
     ///
     /// 1. `NotHeld`: the client does not hold. The outcome is as before, with its room.
     /// 2. `Memory`: memory ran out, and there was not room to leave. The outcome is empty.
@@ -307,7 +307,7 @@ impl Slot {
     ///
     /// # Errors
     ///
-    /// The first that holds, after which the resource is as before:
+    /// The first that holds; the resource is then as before:
     ///
     /// 1. `NotWaiting`: the client neither waits nor is queued. The outcome is as before, with its room.
     /// 2. `Memory`: memory ran out, and there was not room to leave. The outcome is empty.
@@ -334,7 +334,7 @@ impl Slot {
             }
             return Err(CancelError::NotWaiting);
         };
-        // The marks are two at most; the room is that of a leave, since one list serves both.
+        // There are two marks at most. The room is the same as for a leave, since one list serves both.
         let Ok(()) = outcome.marks.reserve(3) else {
             return Err(CancelError::Memory);
         };

@@ -4,7 +4,7 @@ use Rattle.std.specs.HashMap.{values}
 use Rattle.ra_node.specs.Resource.{holder_of}
 use Rattle.ra_node.proofs.listing.held_of.Given as goal
 
--- the granted requests so far, and those of the slots that are left, are all
+-- the granted requests so far and those of the remaining slots are all of them
 abbrev pub invariant-loop-slot : goal.invariant-loop-slot
 invariant-loop-slot l =
     record {

@@ -7,7 +7,7 @@ use Rattle.ra_node.specs.Node.{resource_at}
 use Rattle.ra_node.proofs.After.{nobody_holds}
 use Rattle.ra_node.proofs.node.Node.is_held_by.Goals as goal
 
--- a client holds exactly if a request is found by which it does
+-- a client holds exactly if its granted request is found
 held_tells : (found : Option Entry) (r : Resource) (client : ℕ) → IfSome found (Holds r client) → IsNone found ↔ ((entry : Entry) → Holds r client entry → ⊥) → IsTrue (is_some found) ↔ ((entry : Entry) × Holds r client entry)
 held_tells None r client held none = (λ e. absurd (false≢true e), λ holds. absurd (none.0 refl holds.0 holds.1))
 held_tells (Some entry) r client held none = (λ _. (entry, held), λ _. refl)

@@ -46,7 +46,7 @@ push_reserved-requires c =
     room_for_entry c.lets_enter.result c.from-count.result _ c.from-count.ensures c.in-Ok.ensures.ok
     (c.lets_enter.ensures.1 (c.in-Ok-receive_addressed.ensures.received.enters.0 c.if-reaction.true))
 
--- ---- What came of it
+-- ---- The outcome
 
 pub returns-clause-received : goal.returns-clause-received
 returns-clause-received c =
