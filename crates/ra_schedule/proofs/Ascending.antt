@@ -1,5 +1,5 @@
--- In a run whose clients take names in order, a client that waits for a name holds all others for which it has asked, and
--- each of them is below that name.
+-- In a run whose clients take names in order, a client that waits for a name holds all other names that it has asked
+-- for, and each of them is below that name.
 use Rattle.std.proofs.Common.{◌≡◌, ◌≢◌, ℕ, List, [], ◌∷◌, ◌++◌, Contains, refl, sym, ap, ◌∙◌, subst, append_assoc, inl, inr}
 use Rattle.std.proofs.lemmas.Bool.{cases_eq}
 use Rattle.std.proofs.lemmas.List.{append-nil}
@@ -51,7 +51,7 @@ one_more_name (m ∷ moves) move =
 
 -- ---- A client that waits
 
--- at each node: a client that waits for a name holds all others for which it has asked, each below that name
+-- at each node: a client that waits for a name holds all other names that it has asked for, each below that name
 pub record AllAscend (n start : ℕ) (moves : List Move) : Type 0 where
   pub nodes : ℕ → NodeState
   pub ends : EndsWith n start moves nodes

@@ -36,7 +36,7 @@ performs_more script moves move choice performs means run = record {
   ];
 }
 
--- a choice that neither loses nor repeats, and with which the run goes on
+-- a choice that neither loses nor repeats, and that lets the run go on
 record CanGoOn (script : ScriptState) (moves : List Move) : Type 0 where
   pub choice : Choice
   pub step : Step

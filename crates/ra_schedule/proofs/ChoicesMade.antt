@@ -23,7 +23,7 @@ not_past : {X : Type 0} (xs : List X) (x : X) → slice_get xs (length xs) ≡ S
 not_past [] x e = cc
 not_past (y ∷ xs) x e = not_past xs x e
 
--- before the first move there are none
+-- before the first move there is none
 pub no_choices : (script : ScriptState) (policy : Policy) (choices : List Choice) (moves : List Move) → choices ≡ [] → moves ≡ []
     → AreChoicesBy script policy choices moves
 no_choices script policy choices moves none no_moves = record {
@@ -35,7 +35,7 @@ no_choices script policy choices moves none no_moves = record {
     nothing [] after move is = cc
     nothing (x ∷ before) after move is = cc
 
--- one more choice and its move
+-- another choice and its move
 pub choices_more : (script : ScriptState) (policy : Policy) (choices new : List Choice) (moves next : List Move) (move : Move) (choice : Choice)
     → AreChoicesBy script policy choices moves → Picks script policy moves choice → StandsFor script moves choice move.step
     → new ≡ choices ++ choice ∷ [] → next ≡ moves ++ move ∷ [] → AreChoicesBy script policy new next

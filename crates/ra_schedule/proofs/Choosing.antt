@@ -1,4 +1,4 @@
--- A policy makes one choice, a choice stands for one step, and has one fault at most.
+-- A policy makes one choice, a choice means one step, and has one fault at most.
 use Rattle.std.proofs.Common.{◌≡◌, ◌⊎◌, ℕ, zero, suc, ◌+◌, ◌-◌, ◌%◌, ◌<◌, ◌≤◌, Option, Some, None, List, [], ◌∷◌, length, slice_get, refl, sym, ap, ◌∙◌, subst, arith, inl, inr}
 use Rattle.std.proofs.lemmas.Bool.{cases_eq}
 use Rattle.ra_stamp.specs.Sequence.{Listed as Listing}
@@ -45,7 +45,7 @@ means_one one script moves (Message place) a b (m, at, is) (m', at', is') = let 
 means_one one script moves (Lost place) a b (m, at, is) (m', at', is') = let same = place_is_one one moves place m m' at at' in cc
 means_one one script moves (Repeated place) a b (m, at, is) (m', at', is') = let same = place_is_one one moves place m m' at at' in cc
 
--- what stands for a step has no fault
+-- a choice that means a step has no fault
 pub no_bad_place : (script : ScriptState) (moves : List Move) (choice : Choice) (step : Step)
     → StandsFor script moves choice step → IsBadPlace script moves choice → ⊥
 no_bad_place script moves (Client client) step h bad = let at = h.next.2 in absurd cc

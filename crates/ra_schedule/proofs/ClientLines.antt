@@ -54,12 +54,12 @@ next_line script moves count client text line new is so_far this more =
     subst (λ (n : ℕ). AreClientLines script moves n new) same
     (text, line, so_far, subst (λ (n : ℕ). IsClientLine script moves n line) (is ∙ sym same) this, more)
 
--- the lines are those of all clients
+-- the lines are the lines of all clients
 pub all_lines : (script : ScriptState) (moves : List Move) (count : ℕ) (text : List ℕ) → count ≡ length script.clients → AreClientLines script moves count text
     → AreClientLines script moves (length script.clients) text
 all_lines script moves count text is lines = subst (λ (n : ℕ). AreClientLines script moves n text) is lines
 
--- ---- Each number is that of a client
+-- ---- Each number is a client's
 
 none_some : {X : Type 0} {x : X} → None ≡ Some x → ⊥
 none_some e = absurd cc

@@ -110,7 +110,7 @@ NoneLeaves client (Entered e ∷ marks) = NoneLeaves client marks
 NoneLeaves client (Left e ∷ marks) = (e.client ≢ client) × NoneLeaves client marks
 NoneLeaves client (Withdrawn e ∷ marks) = NoneLeaves client marks
 
--- one more mark in front
+-- another mark in front
 more_silent : (c : ℕ) (mark : Mark) (marks : List Mark) → (Enters c mark → ⊥) → IsSilent c marks → IsSilent c (mark ∷ marks)
 more_silent c mark marks none silent = All-cons (λ m. Enters c m → ⊥) mark marks none silent
 
@@ -202,7 +202,7 @@ module _ (me nodes start : ℕ) (name : List ℕ) (old : Resource) (client : ℕ
   listed : clients_of new ≡ clients_of old ++ client ∷ []
   listed = asks_last me nodes start name old client mode sends marks new consistent turn
 
-  -- it is there from then on, and holds exactly if a mark says that it entered
+  -- it is at the name from then on, and holds it exactly if a mark says that it entered
   pub asker_stands : IsBusy new client
   asker_stands = subst (λ (xs : List ℕ). Contains xs client) (sym listed) (Contains-push (clients_of old) client)
 
@@ -243,7 +243,7 @@ others_there front back x y apart = (
   ],
 )
 
--- and it is there no more, if it was there once
+-- and it is not at the name any more, if it was at it once
 gone_from : (front back : List ℕ) (x : ℕ) → AllPairs (λ a b. a ≢ b) (front ++ x ∷ back) → Contains (front ++ back) x → ⊥
 gone_from [] back x once (k, within, is) = once 0 (suc k) x (omega arith) (omega arith) (sym is)
 gone_from (y ∷ front) back x once at = elim (in_rest y (front ++ back) x at) [
@@ -255,7 +255,7 @@ gone_from (y ∷ front) back x once at = elim (in_rest y (front ++ back) x at) [
 
 -- ---- A client leaves, or gives up
 
--- the request of the current client ends, and that client is there no more
+-- the request of the current client ends, and that client is not at the name any more
 ends_first : (Ends : Entry → List Message → Resource → Type 0) (mark : Entry → Mark) (old : Resource) (client : ℕ) → AreEnded old Ends → old.client ≡ Some client
     → (sends : List Message) (marks : List Mark) (new : Resource) → EndTurn Ends mark old sends marks new → clients_of old ≡ client ∷ clients_of new
 ends_first Ends mark old client ended current sends marks new turn = elim turn [
@@ -330,7 +330,7 @@ cancel_leaves c old client sends marks new turn = elim turn [
   | inr ends ↦ end_leaves (Withdraws old client) Withdrawn c (λ e ms r more withdraws rest. rest) old sends marks new ends
 ]
 
--- it is there no more
+-- it is not at the name any more
 out_gone : (old new : Resource) (client : ℕ) → AllPairs (λ a b. a ≢ b) (clients_of old) → IsTakenOut old client new → IsBusy new client → ⊥
 out_gone old new client once (front, back, was, is) busy =
     gone_from front back client (subst (AllPairs (λ a b. a ≢ b)) was once) (subst (λ (xs : List ℕ). Contains xs client) is busy)

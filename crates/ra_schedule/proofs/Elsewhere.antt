@@ -1,4 +1,5 @@
--- Who is enabled after one more move: a client that is not at its node and did not enter by it is so if it was before.
+-- Which clients are enabled after one more move: a client that is not at its node and did not enter by it is enabled if
+-- it was before.
 use Rattle.std.proofs.Common.{◌≡◌, ◌≢◌, ◌↔◌, ℕ, ◌+◌, Bool, Some, List, [], ◌∷◌, ◌++◌, All, slice_get, slice_index_or, refl, sym, ap, ◌∙◌, subst, arith, inl, inr}
 use Rattle.std.specs.Prelude.{if◌then◌else◌, option_map}
 use Rattle.std.proofs.lemmas.Bool.{ne_eqb}

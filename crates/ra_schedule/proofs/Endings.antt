@@ -66,7 +66,7 @@ no_ok : {X : Type 0} {x : X} {y : DriveError} → Ok x ≡ Err y → ⊥
 no_ok e = cc
 
 module _ (laws : LawsOfRuns) (below : LawsBelow) (script : ScriptState) (fit : IsScript script) (policy : Policy) (limit : ℕ) where
-  -- a policy that chooses by itself and repeats nothing is refused nothing but memory
+  -- a policy that chooses by itself and repeats nothing is refused only for lack of memory
   only_memory : RepeatsNothing policy → ChoosesItself policy → most_turns script ≤ limit → (fault : DriveError)
       → (fault ≢ Memory → (moves : List Move) × Follows script policy moves × Stops script policy limit moves fault) → fault ≡ Memory
   only_memory unrepeated itself enough Memory refused = refl
@@ -89,7 +89,7 @@ module _ (laws : LawsOfRuns) (below : LawsBelow) (script : ScriptState) (fit : I
     only_memory = λ unrepeated itself enough. only_memory unrepeated itself enough fault (λ apart. answers.refused fault apart refl);
   }
 
--- ---- What comes of a seed
+-- ---- The outcome of a seed
 
 pub chance_chooses : (faults : Option FaultRates) (seed : ℕ) → ChoosesItself (chance faults seed)
 chance_chooses None seed = tt

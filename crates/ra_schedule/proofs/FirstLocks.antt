@@ -18,7 +18,7 @@ abbrev end_of : List Op → Option OutOfOrder → ℕ
 end_of ops None = length ops
 end_of ops (Some found) = found.place
 
--- what was found is out of order, and comes of a place before this one
+-- what was found is out of order, at a place before this one
 abbrev IsFound : List Op → (client since : ℕ) → Option OutOfOrder → Type 0
 IsFound ops client since None = ⊤
 IsFound ops client since (Some found) = (found.client ≡ client) × (found.since < since) × LocksBelow ops found.since found.place
@@ -34,7 +34,7 @@ pub record FirstSoFar (ops : List Op) (client since end : ℕ) (first : Option O
   pub found : IsFound ops client since first
   pub before : (earlier other : ℕ) → earlier < since → LocksBelow ops earlier other → IsBefore first earlier other
 
--- both places are those of operations
+-- both places are places of operations
 within : (ops : List Op) (since place : ℕ) → LocksBelow ops since place → place < length ops
 within ops since place b = slice_get_within ops place (Lock b.name b.locks.0) b.locks.1
 
@@ -51,7 +51,7 @@ at_the_place ops client since end (Some f) is found other past b =
       | inr more ↦ let early = found.1 in inr (omega arith, omega arith)
     ]
 
--- the places that are left are those of operations
+-- the places that are left are places of operations
 pub end_within : (ops : List Op) (client since end : ℕ) (first : Option OutOfOrder) → FirstSoFar ops client since end first → end ≤ length ops
 end_within ops client since end None so_far = let is = so_far.end_is in omega (arith, is)
 end_within ops client since end (Some f) so_far =
@@ -166,7 +166,7 @@ first_kept ops place before here = record {
   ];
 }
 
--- there is none
+-- there is no such place
 pub none_kept : (ops : List Op) (count : ℕ) → length ops ≤ count → ((k : ℕ) → k < count → NeverUnlocks ops k → ⊥) → EndsHolding ops → ⊥
 none_kept ops count all none h =
     let b = held_kept ops h in

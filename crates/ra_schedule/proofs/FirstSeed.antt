@@ -1,4 +1,4 @@
--- One more seed by which a script does not come to the end that is looked for.
+-- Another seed with which a script does not come to the end that is looked for.
 use Rattle.std.proofs.Common.{◌≡◌, ℕ, ◌+◌, ◌-◌, ◌<◌, ◌≤◌, false, Option, sym, subst, arith, inl, inr}
 use Rattle.std.proofs.lemmas.Bool.{cases_lt}
 use Rattle.ra_schedule.specs.declared.surveys.first_seed.Ending.{Ending}
@@ -25,7 +25,7 @@ pub none_past : (script : ScriptState) (faults : Option FaultRates) (limit : ℕ
     → NoneBefore script faults limit ending first (last + 1)
 none_past script faults limit ending first last past other from below = absurd (omega (arith, past, from, below))
 
--- so many seeds were tried up to this one
+-- this many seeds were tried up to this one
 pub tried_to : (first seed count : ℕ) → first + count ≡ seed → first + (seed + 1 - first) ≡ seed + 1
 tried_to first seed count so = omega (arith, so)
 

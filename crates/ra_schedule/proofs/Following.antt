@@ -82,7 +82,7 @@ same_moves laws script policy a b count f g e =
     sym (lists.take_all (length a) a (omega arith)) ∙ same_prefix laws script policy a b count f g (length a) (omega arith) (omega arith)
     ∙ lists.take_all (length a) b (omega arith)
 
--- after the shorter of two lists a choice was made that stands for a step
+-- after the shorter of two lists a choice was made that means a step
 pub goes_further : LawsBelow → (script : ScriptState) (policy : Policy) (a b : List Move) → IsNodeNumber script.nodes
     → Follows script policy a → Follows script policy b → length a < length b
     → (choice : Choice) × (step : Step) × Picks script policy a choice × StandsFor script a choice step

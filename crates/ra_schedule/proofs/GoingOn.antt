@@ -61,7 +61,7 @@ one_or_none node client (x ∷ names) = elim (waits_or_not node client x) [
     neither x names name not none (zero, within, is) waits = not (subst (WaitsForName node client) (sym is) waits)
     neither x names name not none (suc k, within, is) waits = none name (k, omega (arith, within), is) waits
 
--- ---- Who waits for whom
+-- ---- Which client waits for which
 
 module _ (nodes_laws : LawsOfNodes) (laws : LawsOfRuns) (n start : ℕ) (count : IsNodeNumber n) (moves : List Move) (run : IsRun n start moves) (quiet : IsQuiet moves)
     (all : AllAscend n start moves) (few : start + requests_in (marks_of moves) < greatest_number) where

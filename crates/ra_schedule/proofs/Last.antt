@@ -49,7 +49,7 @@ none_there (x ∷ xs) n len none = absurd (false≢true (none (omega (arith, len
 pub no_last_has : (script : ScriptState) (ops : List Op) → script.clients ≡ [] → LastHas script ops → ⊥
 no_last_has script ops none has = no_last script has.0 has.1 has.2 none
 
--- a script with one more operation of its last client
+-- a script with another operation of its last client
 pub adds_op : (old : ScriptState) (nodes : ℕ) (clients : List ScriptClient) (n : ℕ) (last new : ScriptClient) (op : Op) → n ≡ length clients → 0 < n → last ≡ get_or clients (n - 1) last
     → record { nodes = nodes; clients = clients } ≡ old → new ≡ record last { ops = last.ops ++ op ∷ [] }
     → AddsOp old op (record { nodes = nodes; clients = set clients (n - 1) new })

@@ -1,7 +1,7 @@
--- A list with one more item at its end, taken apart at another place.
+-- A list with a new item at its end, taken apart at another place.
 use Rattle.std.proofs.Common.{◌≡◌, ◌⊎◌, ℕ, zero, suc, ◌<◌, List, [], ◌∷◌, ◌++◌, length, take, drop, ap, refl, arith, inl, inr}
 
--- the item at which the list is taken apart is the last one, or it is in the list before
+-- the list is taken apart at its last item, or at one of the list before
 pub split_last : {X : Type 0} (xs : List X) (x : X) (before after : List X) (y : X) → xs ++ x ∷ [] ≡ before ++ y ∷ after
     → ((before ≡ xs) × (y ≡ x) × (after ≡ [])) ⊎ ((rest : List X) × (after ≡ rest ++ x ∷ []) × (xs ≡ before ++ y ∷ rest))
 split_last [] x [] after y e = inl (refl, cc, cc)

@@ -249,7 +249,7 @@ unlock_found ops place op unlocked name inside at is locks =
     let clash : Unlock unlocked ≡ Lock name locks.0 = sym is ∙ same_Some op (Lock name locks.0) (sym there ∙ locks.1) in
     cc
 
--- there is none
+-- there is no such place
 pub nothing_found : (ops : List Op) (place : ℕ) (name : List ℕ) → false ≡ ltb place (length ops) → LocksAt ops place name → ⊥
 nothing_found ops place name outside locks =
     let past = ltb-false place (length ops) (sym outside) in

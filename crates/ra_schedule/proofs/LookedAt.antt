@@ -1,4 +1,4 @@
--- What a look at one client says: whether it is enabled, and at which names it is.
+-- What a look at one client tells: whether it is enabled, and at which names it is.
 use Rattle.std.proofs.Common.{◌≡◌, ◌≢◌, ◌<◌, ◌≤◌, ◌+◌, ◌-◌, ℕ, Bool, false, List, Option, Some, None, length, get_or, set, refl, sym, ap, ◌∙◌, subst, arith}
 use Rattle.std.specs.Prelude.{slice_get, option_map, option_and_then, IsNone, IfSome}
 use Rattle.std.specs.Option.{is_some}

@@ -1,4 +1,4 @@
--- Flags of which some are looked at again, one after the other.
+-- Some of the flags are computed again, one after the other.
 use Rattle.std.proofs.Common.{◌≡◌, ◌≢◌, ◌⊎◌, ℕ, ◌+◌, ◌<◌, Bool, List, take, get_or, length, slice_index_or, refl, sym, ◌∙◌, subst, arith, inl, inr}
 use Rattle.std.specs.Prelude.{Contains}
 use Rattle.std.proofs.lemmas.Bool.{cases_eq}
@@ -40,7 +40,7 @@ one_more script moves old new next client Before After len again this others goe
           ]
     ]
 
--- nobody is looked at
+-- no client is looked at
 pub no_more : (script : ScriptState) (moves : List Move) (old new : List Bool) (Before After : ℕ → Type 0)
     → AreAgain script moves old new Before → ((other : ℕ) → Before other → After other) → AreAgain script moves old new After
 no_more script moves old new Before After again goes_on k d within =

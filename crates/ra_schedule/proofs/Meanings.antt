@@ -1,4 +1,4 @@
--- What a choice stands for, or why it can't be made.
+-- What a choice means, or why it can't be made.
 use Rattle.std.proofs.Common.{◌≡◌, ◌≢◌, ℕ, zero, suc, ◌+◌, ◌-◌, ◌<◌, ◌≤◌, ltb, Bor, Option, Some, None, Result, Ok, Err, List, [], length, slice_get, get_or, refl, sym, ap, ◌∙◌, subst, arith, inl, inr}
 use Rattle.std.specs.Prelude.{IfOk, IfErr, IfSome, IsNone, is_some, option_copied}
 use Rattle.std.proofs.lemmas.Bool.{ltb-true, ltb-false}
@@ -69,7 +69,7 @@ pub place_of_client : (script : ScriptState) (client count : ℕ) (clients : Lis
     → length clients ≡ length script.clients → client - 1 < length clients
 place_of_client script client count clients not within count_is long = omega (arith, not, within, count_is, long)
 
--- there it is known at which names the client is
+-- in this case it is known at which names the client is
 pub progress_of : (script : ScriptState) (world : WorldState) (clients : List Progress) (client : ℕ) (d : Progress) → Tracks script world clients → (client ≡ 0 → ⊥)
     → client - 1 < length clients → IsProgress client world.moves (get_or clients (client - 1) d)
 progress_of script world clients client d tracks not within =
@@ -99,7 +99,7 @@ nobody script moves choice client is none = subst (λ (c : Choice). HasFault scr
 pub number_zero : (script : ScriptState) (moves : List Move) (choice : Choice) (client : ℕ) → choice ≡ Client client → client ≡ 0 → HasFault script moves choice BadPlace
 number_zero script moves choice client is none = nobody script moves choice client is (no_zero script client none)
 
--- a client stands for its step if it is enabled
+-- a client's number means its step if the client is enabled
 pub enabled_stands : (script : ScriptState) (moves : List Move) (choice : Choice) (client : ℕ) (found : Option Step) (r : Result Step DriveError)
     → choice ≡ Client client → r ≡ ok_or found NotEnabled → IfSome found (Enables script moves client) → IfOk r (StandsFor script moves choice)
 enabled_stands script moves choice client (Some step) r is r_is some =

@@ -1,4 +1,4 @@
--- What one more move of a run makes of the nodes: one of them takes an event, or all stay.
+-- How the next move of a run changes the nodes: one of them takes an event, or all stay.
 use Rattle.std.proofs.Common.{◌≡◌, ◌≢◌, ℕ, ◌≤◌, List, [], ◌∷◌, ◌++◌, map, sym, ap, subst}
 use Rattle.ra_node.specs.Node.{NodeState, opening_node}
 use Rattle.ra_node.specs.Events.{Event, Happening, NodeEvent, NodeEvents}
@@ -7,7 +7,7 @@ use Rattle.ra_world.specs.Run.{events_at, happened_at, EndsWith}
 use Rattle.ra_world.proofs.Moves.{happens, happened_more, only_at}
 use Rattle.ra_schedule.specs.BelowFinishing.{LawsOfNodes}
 
--- the number is that of a node
+-- the number is a node's
 abbrev pub IsNode : ℕ → ℕ → Type 0
 IsNode n i = (1 ≤ i) × (i ≤ n)
 

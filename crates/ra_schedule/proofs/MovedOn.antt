@@ -88,7 +88,7 @@ after_another step client old new none not_asks same =
     subst (IsAfterStep client step old) (sym same)
     (record { done = omega (arith, none); waiting = (λ waits. inr waits, λ either. elim either [ inl asks ↦ absurd (not_asks asks) | inr waits ↦ waits ]) })
 
--- the step is none of a client that asks or leaves
+-- the step is not one in which a client asks or leaves
 abbrev pub IsOfNobody : Step → Type 0
 IsOfNobody (Ask node client name mode) = ⊥
 IsOfNobody (Leave node client name) = ⊥

@@ -83,7 +83,7 @@ pub nobody_queued : (n : ℕ) (nodes : ℕ → NodeState) → ((i : ℕ) (name :
 nobody_queued n nodes nobody =
     over_nodes (λ i. queued_count (nodes i)) 1 n (λ i low high. nobody_at (nodes i) (λ name client. nobody i name client (low, omega (arith, high))))
 
--- ---- If none is queued, no queue has anybody in it
+-- ---- If no client is queued, all queues are empty
 
 none_found : (k : List ℕ) (v : Resource) (es : List (List ℕ × Resource)) → sum_by (λ e. length e.1.queue) es ≡ 0 → find cmp k es ≡ Some v → length v.queue ≡ 0
 none_found k v [] none is = absurd cc

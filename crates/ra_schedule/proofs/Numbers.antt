@@ -24,7 +24,7 @@ small_more value place digit small one = let more = pow_more 10 place in omega (
 digit_below : (byte : ℕ) → is_ascii_digit byte ≡ true → byte - 48 < 10
 digit_below byte is = let (low, high) = and_parts (nat_le 48 byte) (nat_le byte 57) is in let most = leb-true byte 57 high in omega (arith, most)
 
--- the number of one more digit
+-- the number with another digit
 pub decimal_more : (digits : List ℕ) (i value digit : ℕ) → i < length digits → is_ascii_digit (get_or digits i 0) ≡ true → digit ≡ get_or digits i 0 - 48
     → value ≡ decimal_value (take i digits) → value < 10 ^ i
     → (10 * value + digit ≡ decimal_value (take (i + 1) digits)) × (10 * value + digit < 10 ^ (i + 1))
@@ -35,7 +35,7 @@ decimal_more digits i value digit less here is so_far small = (
   small_more value i digit small (subst (λ (d : ℕ). d < 10) (sym is) (digit_below (get_or digits i 0) here)),
 )
 
--- a decimal has one to nine digits, of which the first of two or more is not 0
+-- a decimal has one to nine digits; if it has several, the first one is not 0
 pub record IsDecimal (digits : List ℕ) : Type 0 where
   pub some : 1 ≤ length digits
   pub few : length digits ≤ 9
@@ -94,7 +94,7 @@ pub IsChosenTo-refused : (words : List (List ℕ)) (place : ℕ) (done : List Ch
 IsChosenTo-refused words place done word lt is unread h =
     let step = at_drop_more choices_in words place word lt in rw (h.same, step, sym is, unread)
 
--- one more word that is a choice
+-- another word that is a choice
 one_word_more : (words : List (List ℕ)) (done : List Choice) (word : List ℕ) (x : Choice) → choices_in words ≡ Some done → choice_of word ≡ Some x
     → choices_in (words ++ word ∷ []) ≡ Some (done ++ x ∷ [])
 one_word_more [] done word x before is = let none : [] ≡ done = cc in rw (is, ← none) refl

@@ -1,4 +1,4 @@
--- Who can go on of the clients that have begun.
+-- Which of the clients that have begun can go on.
 use Rattle.std.proofs.Common.{◌≡◌, ℕ, zero, suc, ◌+◌, ◌<◌, ◌≤◌, Some, List, [], ◌∷◌, length, slice_get, slice_index_or, refl, sym, ap, ◌∙◌, subst, arith}
 use Rattle.std.specs.Prelude.{◌↔◌}
 use Rattle.ra_stamp.specs.declared.message.Message.{Message as Sent}
@@ -93,7 +93,7 @@ oldest_can_be_made script moves (Message place) (none, is, (message, at)) =
 oldest_can_be_made script moves (Lost place) first = absurd first
 oldest_can_be_made script moves (Repeated place) first = absurd first
 
--- what is there does not depend on what would be there otherwise
+-- the value that exists does not depend on what would be taken otherwise
 pub one_there : {X : Type 0} (xs : List X) (k : ℕ) (d e : X) → k < length xs → slice_index_or xs k d ≡ slice_index_or xs k e
 one_there [] k d e less = absurd (omega arith)
 one_there (x ∷ xs) zero d e less = refl

@@ -1,4 +1,4 @@
--- The marks that name a client are those of the operations that it did, but for those of the lock that it waits for.
+-- The marks that name a client are the marks of the operations that it did, without the lock that it waits for.
 use Rattle.std.proofs.Common.{◌≡◌, ◌≢◌, ◌⊎◌, ℕ, zero, suc, Bool, true, false, List, [], ◌∷◌, ◌++◌, All, map, Option, Some, None, refl, sym, ap, ◌∙◌, subst, append_assoc, arith, inl, inr}
 use Rattle.std.specs.Prelude.{◌==◌, Contains, AllPairs, option_to_list}
 use Rattle.std.proofs.lemmas.List.{append-nil}
@@ -31,7 +31,7 @@ use Rattle.ra_schedule.proofs.Standing.{LastLocks, last_is_one, ClientStands, wh
 use Rattle.ra_schedule.proofs.StandingRuns.{IsThere}
 use Rattle.ra_schedule.proofs.TableNames.{current_is_busy}
 
--- ---- The marks of operations, with those of one more
+-- ---- The marks of operations, and of one more
 
 follows_lock : (node : ℕ) (ops : List Op) (marks : List Mark) (name : List ℕ) (mode : Mode) (a b : Entry) → FollowsOps node ops marks
     → IsRequestFor node name a × (a.mode ≡ mode) → IsRequestFor node name b × (b.mode ≡ mode)
@@ -136,14 +136,15 @@ IsAsked node client before mode marks r =
     ⊎ ((e : Entry) × (so_far : List Mark) × (marks ≡ so_far ++ Requested e ∷ []) × FollowsOps node before so_far
     × (use_of r ≡ WaitsBy e) × (e.client ≡ client) × (e.mode ≡ mode))
 
--- the marks are those of what the client did, and it waits for nothing; or it waits, and they are those of what it did before
+-- the marks are the marks of what the client did, and it waits for nothing; or it waits, and they are the marks of what
+-- it did before
 abbrev pub IsPlanned : (ℕ → NodeState) → List Move → ℕ → ScriptClient → List Op → Type 0
 IsPlanned nodes moves client who did =
     (FollowsOps who.node did (own_marks client moves) × (IsWaiting client moves → ⊥))
     ⊎ ((before : List Op) × (name : List ℕ) × (mode : Mode) × (did ≡ before ++ Lock name mode ∷ [])
     × IsAsked who.node client before mode (own_marks client moves) (resource_at (nodes who.node) name))
 
--- a client of whose marks one says that it entered does not wait after them
+-- a client does not wait after its marks if one of them says that it entered
 entered_now : (client : ℕ) (moves : List Move) (move : Move) (first : List Mark) (e : Entry) → e.client ≡ client
     → marks_of_client client move.marks ≡ first ++ Entered e ∷ [] → IsWaiting client (moves ++ move ∷ []) → ⊥
 entered_now client moves move first e of marks_are w =
@@ -249,7 +250,7 @@ module _ (n : ℕ) (moves : List Move) (move : Move) (nodes nodes' : ℕ → Nod
         goes_on before mode (inl (follows, queued)) = inl (follows, by.queued (record { client = client; mode = mode }) refl queued)
         goes_on before mode (inr (e, so_far, marks_are, follows, waits, of, mode_is)) = inr (e, so_far, marks_are, follows, by.waits e of waits, of, mode_is)
 
-    -- the lock that is asked for is that of this name
+    -- the lock that is asked for is the lock of this name
     here : IsBusy was client → (HasIt was client → ⊥) → IsPlanned nodes moves client who old.did
         → (p ≡ who.node) × ((before : List Op) × (mode : Mode) × (old.did ≡ before ++ Lock r mode ∷ []) × IsAsked who.node client before mode (own_marks client moves) was)
     here busy out planned =

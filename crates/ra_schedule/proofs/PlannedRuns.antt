@@ -1,5 +1,5 @@
--- After each run in which the clients do what the script says, the marks are those of what they did. So if a run is finished,
--- its marks meet the plan, and nothing is held that is to be given back.
+-- After each run in which the clients do what the script says, the marks are the marks of what they did. So if a run is
+-- finished, its marks meet the plan, and nothing is held that has to be given back.
 use Rattle.std.proofs.Common.{◌≡◌, ◌≢◌, ℕ, List, [], ◌∷◌, ◌++◌, Option, Some, None, Contains, length, take, slice_get, refl, sym, ap, ◌∙◌, subst, append_assoc, arith, inl, inr}
 use Rattle.std.proofs.lemmas.Bool.{cases_eq}
 use Rattle.std.proofs.lemmas.List.{append-nil, length-append, take_at, take_all}
@@ -64,7 +64,7 @@ did_more n moves move nodes client who s op next one =
     omega (arith, s.done, steps_by-more client moves move, one, length-append s.did (op ∷ [])) in
     sym (ap (take (steps_by client (steps_of (moves ++ move ∷ [])))) more.1 ∙ take_at (s.did ++ op ∷ []) more.0 (steps_by client (steps_of (moves ++ move ∷ []))) many)
 
--- what each client did is in the marks, and nobody else is
+-- what each client did is in the marks, and no other client is
 pub record AllPlanned (script : ScriptState) (moves : List Move) (nodes : ℕ → NodeState) : Type 0 where
   pub clients : (client : ℕ) (who : ScriptClient) → client_at script client ≡ Some who → IsPlanned nodes moves client who (done_by moves client who)
   pub nobody : (client : ℕ) → client_at script client ≡ None → own_marks client moves ≡ []

@@ -16,7 +16,7 @@ plan_pushed ops op plan fits before after x e =
       | inr w ↦ plan before w.0 x (before_last ops before w.0 op x w.1 (e ∙ ap (λ xs. before ++ x ∷ xs) w.2)).0
     ]
 
--- a client with one more operation, that fits
+-- a client with another operation, which fits
 pub op_pushed : (node : ℕ) (ops new : List Op) (old : ScriptClient) (op : Op) → record { node = node; ops = ops } ≡ old → new ≡ ops ++ op ∷ []
     → ◌≡◌ {A = ScriptClient} (record { node = node; ops = new }) (record old { ops = old.ops ++ op ∷ [] })
 op_pushed node ops new old op is more = (λ k. record { node = node; ops = more k }) ∙ ap (λ (c : ScriptClient). record c { ops = c.ops ++ op ∷ [] }) is
@@ -36,7 +36,7 @@ nothing_to_do : IsPlan []
 nothing_to_do [] after op e = absurd cc
 nothing_to_do (x ∷ before) after op e = absurd cc
 
--- a script with room for one more client, that has nothing to do yet, stays a script with it
+-- a script with room for another client stays a script with it, as long as that client has nothing to do
 pub script_pushed : (script old : ScriptState) (clients : List ScriptClient) (node member : ℕ) (ops : List Op) → script ≡ old → IsScript script
     → (length old.clients < 64) × (1 ≤ node) × (node ≤ old.nodes) → member ≡ node → ops ≡ [] → clients ≡ script.clients ++ record { node = member; ops = ops } ∷ []
     → IsScript (record { nodes = script.nodes; clients = clients })

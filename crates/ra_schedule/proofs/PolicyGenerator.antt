@@ -67,7 +67,7 @@ words_after : (moves : List Move) (move : Move) → words_by (steps_of (moves ++
 words_after [] move = let e : words_in move.step + 0 ≡ 0 + words_in move.step = omega arith in e
 words_after (m ∷ moves) move = let rest = words_after moves move in omega arith
 
--- after one more move there are the words of its choice more
+-- one more move adds the words of its choice
 pub more_drawn : (script : ScriptState) (policy : Policy) (moves : List Move) (move : Move) (choice : Choice) → StandsFor script moves choice move.step
     → words_drawn policy (moves ++ move ∷ []) ≡ words_drawn policy moves + words_for policy choice
 more_drawn script Oldest moves move choice means = refl
@@ -153,7 +153,7 @@ client_is_picked script policy seed faults moves old new named this other sound 
     let at = same_generator (subst (λ (p : Policy). Some old ≡ generator_at p (words_drawn p moves)) this has) in
     subst (λ (p : Policy). Draws script p moves new named) (sym this) (of_client script seed faults moves old new named other sound at is names)
 
--- and of a message what becomes of it by the next word
+-- and for a message the next word decides what happens to it
 pub message_is_picked : (script : ScriptState) (policy : Policy) (seed : ℕ) (faults : FaultRates) (moves : List Move) (old next new : Lcg)
     (named : Choice) (place : ℕ) (choice : Choice) → policy ≡ Faulty seed faults → named ≡ Message place
     → Some old ≡ generator_at policy (words_drawn policy moves) → next ≡ (pcg64 old).1 → new ≡ (pcg64 next).1

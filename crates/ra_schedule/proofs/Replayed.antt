@@ -270,7 +270,7 @@ goes_on_more script start old new choice (rest, is, each) oldest (inl (move, mea
 goes_on_more script start old new choice goes oldest (inr (none, same)) =
     let (step, means) = oldest_can_be_made script old choice oldest in absurd (none step means)
 
--- a run of so many steps is not below the limit if they are not
+-- a run is not below the limit if the number of its steps is not
 pub as_long : (moves steps limit : ℕ) → steps ≡ moves → limit ≤ steps → moves < limit → ⊥
 as_long moves steps limit is reached less = omega (arith, is, reached, less)
 

@@ -12,7 +12,7 @@ use Rattle.std.proofs.Math.Seq.{get_or-append_seam}
 pub later_is_above : (xs : List ℕ) (i j : ℕ) → IsStrictlyIncreasing xs → i < j → j < length xs → get_or xs i 0 < get_or xs j 0
 later_is_above xs i j rises less within = AllPairs-from_increasing xs rises i j 0 less within
 
--- one more item at the end, above each of them
+-- another item at the end, above all others
 pub rises_more : (xs : List ℕ) (x : ℕ) → IsStrictlyIncreasing xs → ((k : ℕ) → k < length xs → get_or xs k 0 < x)
     → IsStrictlyIncreasing (xs ++ x ∷ [])
 rises_more xs x rises above k within =

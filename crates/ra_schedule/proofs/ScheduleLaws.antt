@@ -31,7 +31,7 @@ schedules_rest_on_runs = record {
   leave_stays = leave_stays;
 }
 
--- the laws on which the laws on how scripts end depend: those of nodes
+-- the laws on which the laws of the ends of scripts depend: laws of nodes
 pub endings_rest_on_nodes : LawsOfNodes
 endings_rest_on_nodes = record {
   opens = opening_is_consistent;
@@ -43,7 +43,7 @@ endings_rest_on_nodes = record {
   splits = events_split;
 }
 
--- and those of runs
+-- and laws of runs
 pub endings_rest_on_runs : LawsOfRuns
 endings_rest_on_runs = record {
   prefixes = λ n start prefix rest. prefixes laws_below.splits n start rest prefix;

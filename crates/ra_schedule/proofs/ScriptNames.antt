@@ -16,7 +16,7 @@ use Rattle.ra_schedule.specs.StateText.{name_of, AreNamesOf, IsNameAt, IsNameOf}
 abbrev pub IsNameBefore : ScriptState → ℕ → ℕ → List ℕ → Type 0
 IsNameBefore script client bound name = (place : ℕ) × (op : Op) × (place < bound) × (op_at script client place ≡ Some op) × (name_of op ≡ name)
 
--- the new set has the old names, and those of the operations of the client before this place
+-- the new set has the old names, and the names in the client's operations before this place
 abbrev pub HasNames : ScriptState → ℕ → ℕ → List (List ℕ) → List (List ℕ) → Type 0
 HasNames script client bound old new = (name : List ℕ) → Contains new name ↔ (Contains old name ⊎ IsNameBefore script client bound name)
 
@@ -29,7 +29,7 @@ no_names script client old name = (
   ],
 )
 
--- a set with one more name
+-- a set with another name
 one_more : (old new : BTreeSet (List ℕ)) (key q : List ℕ) → sorted.Updates (slice_cmp nat_cmp) old new key true
     → Contains new.keys q ↔ (Contains old.keys q ⊎ (key ≡ q))
 one_more old new key q updated = (
@@ -116,7 +116,7 @@ is_there script client place count counted within none = by (client_at script cl
     by None e f = absurd cc
     by (Some who) e f = let same : length who.ops ≡ count = cc in some_at who.ops place (omega (arith, within, same)) f
 
--- after the last place the names are those of the client
+-- after the last place the names are all the client's names
 pub all_put : (script : ScriptState) (client count bound : ℕ) (old new : List (List ℕ)) → option_map (λ c. length c.ops) (client_at script client) ≡ Some count → count ≤ bound
     → HasNames script client bound old new → (name : List ℕ) → Contains new name ↔ (Contains old name ⊎ IsNameAt script client name)
 all_put script client count bound old new counted past has name = (

@@ -139,7 +139,7 @@ comes_none script steps limit moves none comes =
 
 -- ---- From one run to the next
 
--- each of its choices stands for the step of its move, so the list makes the run
+-- each of its choices means the step of its move, so the list makes the run
 pub listed_by : (script : ScriptState) (policy : Policy) (choices : Listing Choice) (moves : List Move)
     → AreChoicesBy script policy choices.items moves → AreChoicesBy script (policies.Listed choices) choices.items moves
 listed_by script policy choices moves by = record {
@@ -205,7 +205,7 @@ replayed_shorter script steps limit world driver is replay comes decides kept =
       shorter = less;
     }
 
--- a list to which a given run was shrunk so far
+-- the list to which a given run has been shrunk so far
 pub record SoFar (script : ScriptState) (given : List Move) (list : Listed) : Type 0 where
   pub moves : List Move
   pub is : IsStuckList script moves list
@@ -298,7 +298,7 @@ pub none_left : (script : ScriptState) (steps : List Step) (found : Option Short
 none_left script steps None not told = told
 none_left script steps (Some next) not told = absurd (not next refl)
 
--- one more step cannot be left out
+-- another step cannot be left out
 pub in_vain_more : (script : ScriptState) (steps : List Step) (from place : ℕ) (found : Option Listed) → ((list : Listed) → found ≡ Some list → ⊥)
     → MatchOption found (IsInVain script (cut steps place) (length steps)) (IsShorter script (cut steps place) (length steps))
     → AreInVain script steps from place → AreInVain script steps from (place + 1)
@@ -317,7 +317,7 @@ cut_begins steps list place i less not_past reached is =
     ap (λ (xs : List Step). xs ++ others (step_there steps place) (drop (place + 1) steps)) (is ∙ ap (λ (n : ℕ). take n steps) same)
     ∙ ap (λ (xs : List Step). take place steps ++ without_first xs) (sym (lists.drop_more steps place (Leave 0 0 []) less))
 
--- one more step is added
+-- another step is added
 pub taken_more : (steps before list new : List Step) (i : ℕ) (step : Step) → i < length steps → step ≡ get_or steps i step → list ≡ before ++ take i steps
     → new ≡ list ++ step ∷ [] → new ≡ before ++ take (i + 1) steps
 taken_more steps before list new i step less at so_far pushed =

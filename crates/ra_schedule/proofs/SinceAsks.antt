@@ -47,7 +47,7 @@ asks_not client (Forget node) not asks = asks
 pub asked_other : (client asker : ℕ) (step : Step) (node : ℕ) (name : List ℕ) (mode : Mode) → step ≡ Ask node asker name mode → (asker ≡ client → ⊥) → Asks client step → ⊥
 asked_other client asker step node name mode is other asks = other (subst (Asks client) is asks)
 
--- the client has waited since one of the first moves, of which these are the steps
+-- the client has waited since one of the first moves, whose steps these are
 abbrev pub IsLeft : ℕ → List Move → List Step → Type 0
 IsLeft client moves rest = (kept after : List Move) × (moves ≡ kept ++ after) × (steps_of kept ≡ rest) × IsWaiting client kept
     × All (λ mark. Enters client mark → ⊥) (marks_of after)
@@ -56,7 +56,7 @@ pub all_left : (client : ℕ) (moves : List Move) (steps : List Step) → steps 
 all_left client moves steps are waits = (moves, [], sym (append-nil moves), sym are, waits, All-nil (λ mark. Enters client mark → ⊥))
 
 module _ (client : ℕ) (moves : List Move) (rest before : List Step) (last : Step) (split : rest ≡ before ++ last ∷ []) where
-  -- a step by which it does not ask
+  -- a step in which it does not ask
   pub next_left : IsLeft client moves rest → (Asks client last → ⊥) → IsLeft client moves before
   next_left (kept, after, are, steps, waits, silent) other =
       let (front, m, is, front_steps, last_is) = split_map kept before last (sym split ∙ sym steps) in
@@ -73,7 +73,7 @@ module _ (client : ℕ) (moves : List Move) (rest before : List Step) (last : St
         )
       ]
 
-  -- the step by which it asks
+  -- the step in which it asks
   pub asked : (state : ClientState) → IsLeft client moves rest → IsAskedIn last client (length rest) state → IsWaitingAt client moves state
   asked state (kept, after, are, steps, waits, silent) (node, name, mode, asks, is) =
       let (front, m, kept_is, front_steps, last_is) = split_map kept before last (sym split ∙ sym steps) in

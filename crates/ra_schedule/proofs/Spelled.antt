@@ -18,7 +18,7 @@ use Rattle.ra_schedule.specs.declared.error.ChoicesError.{ChoicesError}
 use Rattle.ra_schedule.specs.declared.error.ChoicesError.TheVariants as fault
 use Rattle.ra_schedule.proofs.Numbers.{decimal_parts, decimal_of_parts, IsChosenTo, IsChosenTo-refused, choices_of-some}
 
--- the test and the number are those of std
+-- the test and the number are the ones of std
 own : IsNumeralModel (λ digits. list_all is_ascii_digit digits ≡ true) (λ digits. fold (λ value digit. 10 * value + (digit - 48)) 0 digits)
 own = numerals_by_fold (λ digits. list_all is_ascii_digit digits ≡ true) (search rules) (λ n digits. fold (λ value digit. 10 * value + (digit - 48)) n digits) (search rules)
 

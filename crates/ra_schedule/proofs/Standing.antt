@@ -51,7 +51,8 @@ pub record ComesIn (n client : ℕ) (nodes nodes' : ℕ → NodeState) : Type 0 
   pub after : HasIt (resource_at (nodes' i) name) client
   pub kept : (j : ℕ) (other : List ℕ) → IsNode n j → HasIt (resource_at (nodes j) other) client → HasIt (resource_at (nodes' j) other) client
 
--- it is at the names at which it was; and no mark names it and it holds what it held, or a mark says that it entered, and it did
+-- it is at the same names as before; and no mark names it and it holds what it held, or a mark says that it entered,
+-- and it did
 pub record Untouched (n client : ℕ) (marks : List Mark) (nodes nodes' : ℕ → NodeState) : Type 0 where
   pub stands : (i : ℕ) (name : List ℕ) → IsNode n i → IsBusy (resource_at (nodes i) name) client ↔ IsBusy (resource_at (nodes' i) name) client
   pub holds : (IsSilent client marks × ((i : ℕ) (name : List ℕ) → IsNode n i → HasIt (resource_at (nodes i) name) client ↔ HasIt (resource_at (nodes' i) name) client))
@@ -117,7 +118,7 @@ where_is i p name r = elim (cases_eq i p) [
   | inr apart ↦ inr (λ e _. apart e)
 ]
 
--- a fact on the resource of a node and a name is one on that of the same node and name
+-- a fact about the resource of a node and a name is a fact about the resource of an equal node and name
 pub at_same : (nodes : ℕ → NodeState) (P : Resource → Type 0) (i p : ℕ) (name r : List ℕ) → i ≡ p → name ≡ r → P (resource_at (nodes p) r) → P (resource_at (nodes i) name)
 at_same nodes P i p name r node named h =
     subst (λ (k : ℕ). P (resource_at (nodes k) name)) (sym node) (subst (λ (x : List ℕ). P (resource_at (nodes p) x)) (sym named) h)

@@ -8,7 +8,7 @@ use Rattle.ra_schedule.specs.Script.{ScriptState}
 use Rattle.ra_schedule.specs.Survey.{chance, IsOutcome, AreOutcomes, Tallies, IsSurvey}
 use Rattle.ra_schedule.proofs.Choosing.{same_some}
 
--- what came of the seeds before this one
+-- the outcomes of the seeds before this one
 pub record SoFar (script : ScriptState) (faults : Option FaultRates) (limit first seed : ℕ) (survey : Survey) : Type 0 where
   pub outcomes : List SeedOutcome
   pub each : AreOutcomes script faults limit first outcomes
@@ -56,7 +56,7 @@ one_more_seed script faults limit first seed survey new outcome so is t = record
   tallies = t;
 }
 
--- if the last one is tried, or there are none, they are all
+-- if the last one has been tried, or there are none, these are all
 pub all_seeds : (script : ScriptState) (faults : Option FaultRates) (limit first last seed : ℕ) (survey : Survey) → first + (last + 1 - first) ≡ seed
     → SoFar script faults limit first seed survey → IsSurvey script faults limit first last survey
 all_seeds script faults limit first last seed survey is so = record {

@@ -1,4 +1,4 @@
--- Each request in the lock table of a script's run is that of a client of the script, on a name of the script.
+-- Each request in the lock table of a script's run was made by a client of the script, on a name of the script.
 use Rattle.std.proofs.Common.{◌≡◌, ℕ, Option, Some, List, ◌∷◌, ◌++◌, Contains, length, map, refl, sym, ap, ◌∙◌, subst, append_assoc, arith}
 use Rattle.std.specs.Prelude.{option_to_list, option_and_then, slice_get}
 use Rattle.std.proofs.lemmas.List.Elements.{All-contains}
@@ -20,7 +20,7 @@ use Rattle.ra_schedule.proofs.Enabling.{next_is}
 use Rattle.ra_schedule.proofs.MovedNodes.{IsNode}
 use Rattle.ra_schedule.proofs.StandingRuns.{AllStand, all_stand}
 
--- the current client is there
+-- the current client is at the name
 pub current_is_busy : (r : Resource) (client : ℕ) → r.client ≡ Some client → IsBusy r client
 current_is_busy r client is =
     subst (λ (o : Option ℕ). Contains (option_to_list o ++ map (λ q. q.client) r.queue) client) (sym is) (0, omega arith, refl)

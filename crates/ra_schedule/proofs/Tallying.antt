@@ -1,4 +1,4 @@
--- What is counted of outcomes, with one more at the end.
+-- What is counted in outcomes, with another one at the end.
 use Rattle.std.proofs.Common.{◌≡◌, ◌⊎◌, ◌≤◌, ◌<◌, ◌^◌, ℕ, zero, suc, ◌+◌, min, max, Bool, true, false, Option, Some, None, List, [], ◌∷◌, ◌++◌, length, map, refl, sym, ap, subst, ◌∙◌, arith, inl, inr}
 use Rattle.std.specs.Prelude.{All, Contains, filter, flat_map, option_map, IfSome}
 use Rattle.std.specs.List.{position_from}
@@ -90,7 +90,7 @@ more_by test first outcomes outcome (Some s) e passes =
     new ∙ (ap (λ (n : ℕ). Some (record { seeds = n; first = s })) (one_passes test outcomes outcome passes)
     ∙ ap (λ t. Some (tally_with t seed)) (sym old))
 
--- one more that passes
+-- another one that passes
 pub one_more : (test : SeedOutcome → Bool) (first : ℕ) (outcomes : List SeedOutcome) (outcome : SeedOutcome) → test outcome ≡ true
     → tally_of test first (outcomes ++ outcome ∷ []) ≡ Some (tally_with (tally_of test first outcomes) (first + length outcomes))
 one_more test first outcomes outcome passes = more_by test first outcomes outcome (position_from test first outcomes) refl passes
@@ -107,7 +107,7 @@ same_by test first outcomes outcome (Some s) e fails =
     ∙ (ap (λ (passed : List SeedOutcome). Some (record { seeds = length passed; first = s })) (none_passes test outcomes outcome fails)
     ∙ sym (ap (option_map (tally_from test outcomes)) e))
 
--- one more that does not pass
+-- another one that does not pass
 pub no_more : (test : SeedOutcome → Bool) (first : ℕ) (outcomes : List SeedOutcome) (outcome : SeedOutcome) → test outcome ≡ false
     → tally_of test first (outcomes ++ outcome ∷ []) ≡ tally_of test first outcomes
 no_more test first outcomes outcome fails = same_by test first outcomes outcome (position_from test first outcomes) refl fails
@@ -139,7 +139,7 @@ pub few_enough : (test : SeedOutcome → Bool) (first seed : ℕ) (outcomes : Li
     → (tally : Option Tally) → tally ≡ tally_of test first outcomes → IfSome tally (λ t. t.seeds < 2 ^ 64)
 few_enough test first seed outcomes is small tally t = below_by test first seed outcomes (position_from test first outcomes) refl is small tally t
 
--- a tally that counted one more
+-- a tally that counted another one
 pub counts : (test : SeedOutcome → Bool) (first seed : ℕ) (outcomes : List SeedOutcome) (outcome : SeedOutcome) (old new : Option Tally)
     → old ≡ tally_of test first outcomes → first + length outcomes ≡ seed → test outcome ≡ true → new ≡ Some (tally_with old seed)
     → new ≡ tally_of test first (outcomes ++ outcome ∷ [])
@@ -150,7 +150,7 @@ counts test first seed outcomes outcome old new o is passes n =
 pub number_is : (numbers : List ℕ) (a b : ℕ) (spread : Option Spread) → a ≡ b → IsLeastAndMost (numbers ++ a ∷ []) spread → IsLeastAndMost (numbers ++ b ∷ []) spread
 number_is numbers a b spread same kept = subst (λ (n : ℕ). IsLeastAndMost (numbers ++ n ∷ []) spread) same kept
 
--- a figure of the runs that came to an end, with one more such run and with none
+-- a figure of the runs that came to an end, with another such run and without one
 pub one_number_more : (figure : RunCost → ℕ) (outcomes : List SeedOutcome) (outcome : SeedOutcome) (figures : RunCost) (spread : Option Spread) → figures_of outcome ≡ figures ∷ []
     → IsLeastAndMost (map figure (flat_map figures_of outcomes) ++ figure figures ∷ []) spread
     → IsLeastAndMost (map figure (flat_map figures_of (outcomes ++ outcome ∷ []))) spread

@@ -151,7 +151,7 @@ listed script moves (suc last) none =
     let off : IsEnabled script moves (last + 1) → ⊥ = λ on. more (clients ++ (last + 1) ∷ []) (one_more script moves last clients are on) in
     more clients (no_more script moves last clients are off))
 
--- if a word names no choice, there is none
+-- if a word names no choice, no choice is made
 none_named : (script : ScriptState) (moves : List Move) (word : ℕ) → ((choice : Choice) → IsNamedBy word script moves choice → ⊥)
     → (clients : List ℕ) (left : List Sent) → AreEnabled script moves clients → LeavesUnderWay moves left → length clients + length left ≡ 0
 none_named script moves word never clients left are leaves =

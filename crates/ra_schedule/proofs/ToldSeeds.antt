@@ -1,4 +1,4 @@
--- One more seed that an observer was told of.
+-- The next seed that an observer learns of.
 use Rattle.std.proofs.Common.{◌≡◌, ℕ, ◌+◌, ◌≤◌, Option, Some, None, List, [], ◌∷◌, ◌++◌, length, refl, sym, ap, subst, ◌∙◌, arith}
 use Rattle.std.proofs.lemmas.List.{append-nil, append_assoc, length-append}
 use Rattle.ra_schedule.specs.declared.surveys.seed_outcomes.SeedOutcome.{SeedOutcome}
@@ -25,7 +25,7 @@ one_more first [] outcome seed is =
 one_more first (x ∷ xs) outcome seed is =
     ap (λ (told : List Told). record { seed = first; outcome = x } ∷ told) (one_more (first + 1) xs outcome seed (omega arith))
 
--- what an observer was told of the seeds before this one
+-- what an observer has learned of the seeds before this one
 pub record ToldSoFar (script : ScriptState) (faults : Option FaultRates) (limit first seed : ℕ) (old new : Option (List Told)) : Type 0 where
   pub outcomes : List SeedOutcome
   pub each : AreOutcomes script faults limit first outcomes
@@ -52,7 +52,7 @@ told_more script faults limit first seed old now new outcome so is tells = recor
       (tells_both old now new (with_seeds first so.outcomes) (record { seed = seed; outcome = outcome } ∷ []) so.told tells);
 }
 
--- the seeds up to this one, if they are so many
+-- the seeds up to this one, if they are this many
 pub tells_seeds : (script : ScriptState) (faults : Option FaultRates) (limit first seed count : ℕ) (old new : Option (List Told))
     → ToldSoFar script faults limit first seed old new → first + count ≡ seed → TellsSeeds script faults limit first count old new
 tells_seeds script faults limit first seed count old new so is = record {
@@ -62,7 +62,7 @@ tells_seeds script faults limit first seed count old new so is = record {
   told = so.told;
 }
 
--- the seeds before one that is not beyond the last
+-- the seeds before one that is not past the last
 pub tells_some : (script : ScriptState) (faults : Option FaultRates) (limit first seed last : ℕ) (old new : Option (List Told))
     → ToldSoFar script faults limit first seed old new → seed ≤ last → TellsSomeSeeds script faults limit first last old new
 tells_some script faults limit first seed last old new so most = record {

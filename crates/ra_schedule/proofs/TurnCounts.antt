@@ -20,7 +20,7 @@ use Rattle.ra_schedule.proofs.Waiting.{steps_by-more}
 use Rattle.ra_schedule.proofs.Elsewhere.{another's}
 use Rattle.ra_schedule.proofs.StandingRuns.{own_step}
 
--- ---- Weights: of a lock, and of an unlock and all else that happens at a node
+-- ---- Weights: of a lock, and of an unlock and of everything else that happens at a node
 
 abbrev step_weight : ℕ → ℕ → Step → ℕ
 step_weight a b (Ask node client name mode) = a
@@ -63,7 +63,7 @@ module _ (a b : ℕ) where
   at_most_all (x ∷ ops) zero = omega arith
   at_most_all (x ∷ ops) (suc k) = omega (arith, at_most_all ops k)
 
-  -- the weight of what clients did, of which each did so many, if the first has this number
+  -- the weight of what clients did, if each did this many operations and the first client has this number
   abbrev spent : (ℕ → ℕ) → ℕ → List ScriptClient → ℕ
   spent did k [] = 0
   spent did k (c ∷ clients) = ops_weight a b (take (did k) c.ops) + spent did (suc k) clients

@@ -122,7 +122,7 @@ nothing_left script client done n e =
       | Some who ↦ λ h. past_the_end who.ops done n h
     ] e
 
--- a client that waits or has nothing left to do is so still after a move by which it did not enter
+-- a client that waits or has nothing left to do still does after a move that did not let it enter
 stuck_after : (script : ScriptState) (client : ℕ) (move : Move) (old new : Progress) → WaitsOrIsDone script client old
     → IsProgressAfter move client old new → All (λ mark. Enters client mark → ⊥) move.marks → WaitsOrIsDone script client new
 stuck_after script client move old new (inl waits) (between, step, marks) none = inl (marks.waiting.1 (step.waiting.1 (inr waits), none))
@@ -136,7 +136,7 @@ still_stuck script clients new first next move stuck len after less none k d bel
     let before : k < length clients = omega (arith, within, len) in
     stuck_after script (k + 1) move (slice_index_or clients k d) (slice_index_or new k d) (stuck k d (omega (arith, below, less)) before) (after k d before) (none k below)
 
--- nobody of these is enabled
+-- none of these clients is enabled
 pub nobody_below : (script : ScriptState) (world : WorldState) (clients : List Progress) (first : ℕ) → Tracks script world clients
     → WaitOrAreDone script clients first → (k : ℕ) → k < first → IsEnabled script world.moves (k + 1) → ⊥
 nobody_below script world clients first tracks stuck k below (step, enables) =
@@ -276,7 +276,7 @@ countable script world clients tracks fits k d within =
     let few = few_steps (k + 1) world.moves in
     omega arith
 
--- ---- What a choice stands for can be done
+-- ---- What a choice means can be done
 
 contained : {X : Type 0} (xs : List X) (k : ℕ) (x : X) → slice_get xs k ≡ Some x → Contains xs x
 contained [] k x e = absurd cc
@@ -342,7 +342,7 @@ whole xs ys n e = ap (λ (k : ℕ). take k (xs ++ ys)) e ∙ prefix_of xs ys
     prefix_of [] ys = refl
     prefix_of (x ∷ xs) ys = ap (λ zs. x ∷ zs) (prefix_of xs ys)
 
--- one more client is not free
+-- another client is not free
 pub stuck_more : (script : ScriptState) (clients : List Progress) (place : ℕ) (e : Progress) (free : Bool) → WaitOrAreDone script clients place
     → IsTrue free ⊎ WaitsOrIsDone script (place + 1) (slice_index_or clients place e) → free ≡ false → WaitOrAreDone script clients (place + 1)
 stuck_more script clients place e free so_far says not = λ k d below within.

@@ -1,4 +1,4 @@
--- Which policies repeat no message: no choice that they make stands for a repeat.
+-- Which policies repeat no message: no choice that they make means a repeat.
 use Rattle.std.proofs.Common.{◌≡◌, ◌≢◌, ℕ, zero, suc, ◌+◌, ◌%◌, Bool, true, false, List, [], ◌∷◌, ◌++◌, All, length, map, slice_get, Some, refl, sym, ap, ◌∙◌, subst, arith}
 use Rattle.std.specs.Prelude.{nat_lt, if◌then◌else◌}
 use Rattle.std.specs.List.{range_with_len}
@@ -50,7 +50,7 @@ no_repeat (Repeated message) sound place is = sound
 
 -- ---- What faults make of it
 
--- if none are repeats, no number is that of a repeat
+-- if no message is to be repeated, no number means a repeat
 of_tests : (message : ℕ) (lost repeated : Bool) → repeated ≡ lost
     → IsNoRepeat (if lost then Lost message else if repeated then Repeated message else Message message)
 of_tests message true repeated same place is = cc
@@ -95,7 +95,7 @@ no_operation : (node client : ℕ) (op : Op) → repeated_in (step_of node clien
 no_operation node client (Lock name mode) = refl
 no_operation node client (Unlock name) = refl
 
--- and what is no repeat stands for none
+-- and a choice that is no repeat means none
 pub no_choice : (script : ScriptState) (moves : List Move) (choice : Choice) (step : Step) → IsNoRepeat choice → StandsFor script moves choice step
     → repeated_in step ≡ []
 no_choice script moves (Client client) step none means =

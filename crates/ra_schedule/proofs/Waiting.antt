@@ -1,4 +1,4 @@
--- Who waits after one more move, and how many steps each client has made.
+-- Which clients wait after one more move, and how many steps each client has made.
 use Rattle.std.proofs.Common.{◌≡◌, ◌⊎◌, ℕ, ◌+◌, false, List, [], ◌∷◌, ◌++◌, All, refl, sym, ap, ◌∙◌, subst, append_assoc, arith, inl, inr}
 use Rattle.std.proofs.lemmas.Bool.{false≢true}
 use Rattle.std.proofs.lemmas.List.Elements.{All-append, All-same, All-nil, All-push}
@@ -44,7 +44,8 @@ right_part : (client : ℕ) (xs ys : List Mark) → NoneEnters client (xs ++ ys)
 right_part client [] ys all = all
 right_part client (x ∷ xs) ys all = right_part client xs ys (elements.All-tail (λ mark. Enters client mark → ⊥) x (xs ++ ys) all)
 
--- a client waits after one more move if none of its marks says that it entered, and it asks by the move or waited before
+-- a client waits after one more move if none of its marks says that it entered, and it asks in the move or waited
+-- before
 pub waits_on : (client : ℕ) (moves : List Move) (move : Move) → NoneEnters client move.marks
     → Asks client move.step ⊎ IsWaiting client moves → IsWaiting client (moves ++ move ∷ [])
 waits_on client moves move none (inl asks) =
@@ -134,7 +135,7 @@ own_mark client marks mark old between new enters after is =
       );
     }
 
--- a mark that is no Entered says of nobody that it entered
+-- a mark that is no Entered does not say that any client entered
 pub no_entry : (client : ℕ) (mark : Mark) → ((entry : Entry) → mark ≡ Entered entry → ⊥) → Enters client mark → ⊥
 no_entry client (Requested entry) not h = h
 no_entry client (Entered entry) not h = not entry refl

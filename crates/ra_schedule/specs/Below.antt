@@ -7,7 +7,7 @@ use Rattle.ra_world.specs.declared.step.Step.TheVariants.{Ask, Leave, Deliver, L
 use Rattle.ra_world.specs.Traffic.{Move, LeavesUnderWay, IsUnderWay}
 use Rattle.ra_world.specs.Run.{IsRun, GoesOn, events_at}
 
--- the laws of runs, and of the messages under way after them, on which the laws of schedules depend
+-- the laws of runs and of the messages under way after them, which the laws of schedules depend on
 pub record LawsBelow : Type 0 where
   pub prefixes : (n start : ℕ) (prefix rest : List Move) → IsRun n start (prefix ++ rest) → IsRun n start prefix
   pub determined : (n start : ℕ) (a b : List Move) → IsNodeNumber n → IsRun n start a → IsRun n start b

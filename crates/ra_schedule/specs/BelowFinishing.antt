@@ -20,7 +20,7 @@ use Rattle.ra_world.specs.AtNodes.{IsTableOf}
 use Rattle.ra_world.specs.Asked.{asks_by, cancels_by}
 use Rattle.ra_world.specs.Quiet.{IsQuiet, IsBlocked, requests_in, withdrawn_in}
 
--- the laws of the events of a node, on which the laws on how scripts end depend
+-- the laws of the events of a node, which the laws of the ends of scripts depend on
 pub record LawsOfNodes : Type 0 where
   pub opens : (me nodes start : ℕ) → IsNodeNumber nodes → (1 ≤ me) × (me ≤ nodes)
       → IsConsistentNode (opening_node me nodes start)
@@ -40,7 +40,7 @@ pub record LawsOfNodes : Type 0 where
   pub splits : (prefix rest : List Happening) (a c : NodeState) → NodeEvents a (prefix ++ rest) c
       → (b : NodeState) × NodeEvents a prefix b × NodeEvents b rest c
 
--- and those of runs
+-- and the laws of runs
 pub record LawsOfRuns : Type 0 where
   pub prefixes : (n start : ℕ) (prefix rest : List Move) → IsRun n start (prefix ++ rest) → IsRun n start prefix
   pub between_nodes : (n start : ℕ) (moves : List Move) (message : Message)

@@ -45,7 +45,7 @@ abbrev pub choices_of : List ℕ → Option (List Choice)
 choices_of [] = Some []
 choices_of (byte ∷ bytes) = choices_in (slice_split (λ b. b == 32) (byte ∷ bytes))
 
--- a front of the text's words, with at least one of them, in which each spells a choice
+-- a front of the text's words, with at least one of them, each of which spells a choice
 pub record HasChoicesFirst (text : List ℕ) : Type 0 where
   pub count : ℕ
   pub some : 1 ≤ count

@@ -17,8 +17,8 @@ use Rattle.ra_schedule.specs.Schedule.{steps_of, Follows, Ends, Stops, IsFinishe
 use Rattle.ra_schedule.specs.Listing.{AreChoicesBy, AreChoicesOf}
 
 -- The moves are all that the policy chose until no choice was left, within the limit. This is the report of their run,
--- of which the main theorem holds, and whether the run is finished. It is if the policy chooses by itself and loses no
--- message, and each client takes names in ascending order and gives them all back.
+-- for which the main theorem holds, and whether the run is finished. The run is finished if the policy chooses by
+-- itself and loses no message, and each client takes names in ascending order and gives them all back.
 pub record IsWholeRun (script : ScriptState) (policy : Policy) (limit : ℕ) (moves : List Move) (report : Report)
     (finished : Bool) : Type 0 where
   pub follows : Follows script policy moves
@@ -44,8 +44,8 @@ pub record IsSummary (script : ScriptState) (policy : Policy) (limit : ℕ) (sum
   pub run : IsWholeRun script policy limit moves summary.report summary.finished
   pub turns : summary.turns ≡ length moves
 
--- What the policy made of the script until no choice was left, or until one was refused: the report of these moves, of
--- which the main theorem holds, how many they are, and why no other one follows.
+-- What the policy did with the script until no choice was left, or until one was refused: the report of these moves,
+-- for which the main theorem holds, how many they are, and why no other one follows.
 pub record IsDrivenPart (script : ScriptState) (policy : Policy) (limit : ℕ) (part : DrivenPart) : Type 0 where
   pub moves : List Move
   pub follows : Follows script policy moves

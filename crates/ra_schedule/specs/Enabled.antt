@@ -25,7 +25,7 @@ AreRightOrKept script moves old new IsOther =
     (k : ℕ) (d : Bool) → k < length old → IsFlag script moves (k + 1) (slice_index_or new k d)
     ⊎ ((slice_index_or new k d ≡ slice_index_or old k d) × IsOther (k + 1))
 
--- the numbers of those whose flag is set, if the first flag is that of this number
+-- the numbers whose flags are set, if the first flag belongs to this number
 abbrev pub numbers_from : ℕ → List Bool → List ℕ
 numbers_from n [] = []
 numbers_from n (flag ∷ flags) = if flag then n ∷ numbers_from (n + 1) flags else numbers_from (n + 1) flags

@@ -36,7 +36,7 @@ IsOutOfOrder script = (client : ℕ) × IsOf LocksOutOfOrder script client
 abbrev pub IsUnreleased : ScriptState → Type 0
 IsUnreleased script = (client : ℕ) × IsOf EndsHolding script client
 
--- ---- Where
+-- ---- The place
 
 -- the operation at this place locks the name
 abbrev pub LocksAt : List Op → ℕ → List ℕ → Type 0
@@ -70,8 +70,8 @@ pub record IsFirstNeverUnlocked (ops : List Op) (place : ℕ) : Type 0 where
   pub is : NeverUnlocks ops place
   pub first : (other : ℕ) → NeverUnlocks ops other → place ≤ other
 
--- of the first client that locks out of order, this is the first place where it does so, and the first name held then
--- that is not below
+-- the first place at which the first client that locks out of order does so, and the first of the names held then that
+-- is not below
 pub record IsFirstOutOfOrder (script : ScriptState) (found : OutOfOrder) : Type 0 where
   pub is : IsOf (λ ops. IsFirstBelow ops found.since found.place) script found.client
   pub first : (client : ℕ) → IsOf LocksOutOfOrder script client → found.client ≤ client

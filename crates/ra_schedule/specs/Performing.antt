@@ -1,4 +1,4 @@
--- Runs in which the clients of a script do what it says, whatever chooses among them and among the messages.
+-- Runs in which the clients of a script do what it says, whichever client or message goes first.
 use Rattle.std.specs.Prelude.{◌≡◌, ◌≢◌, ℕ, ◌+◌, ◌-◌, ◌*◌, List, [], ◌∷◌, ◌++◌, length, sum_by, All}
 use Rattle.ra_world.specs.Traffic.{Move, LeavesUnderWay}
 use Rattle.ra_world.specs.Run.{IsRun}

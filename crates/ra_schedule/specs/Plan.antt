@@ -29,7 +29,7 @@ IsNextMark node (Lock name mode) true (Entered entry) = IsRequestFor node name e
 IsNextMark node (Unlock name) false (Left entry) = IsRequestFor node name entry
 IsNextMark node op requested mark = ⊥
 
--- the marks are those of these operations at a node, in order
+-- the marks are the marks of these operations at a node, in order
 abbrev pub FollowsOps : ℕ → List Op → List Mark → Type 0
 FollowsOps node [] [] = Unit {0}
 FollowsOps node (Lock name mode ∷ ops) (first ∷ second ∷ marks) =
@@ -39,12 +39,12 @@ FollowsOps node (Unlock name ∷ ops) (first ∷ marks) =
     IsNextMark node (Unlock name) false first × FollowsOps node ops marks
 FollowsOps node ops marks = ⊥
 
--- if the client exists, these marks are those of its operations, and otherwise there are no marks
+-- if the client exists, these marks are the marks of its operations, and otherwise there are no marks
 abbrev pub MeetsPlanOf : Option ScriptClient → List Mark → Type 0
 MeetsPlanOf (Some c) marks = FollowsOps c.node c.ops marks
 MeetsPlanOf None marks = marks ≡ []
 
--- the marks that name a client are those of its operations in order at its node, Requested and Entered for each lock
--- and Left for each unlock; no mark names a client that does not exist
+-- the marks that name a client are the marks of its operations in order at its node, Requested and Entered for each
+-- lock and Left for each unlock; no mark names a client that does not exist
 abbrev pub MeetsPlan : ScriptState → List Mark → Type 0
 MeetsPlan script marks = (client : ℕ) → MeetsPlanOf (client_at script client) (marks_of_client client marks)

@@ -139,8 +139,8 @@ abbrev pub IsNamedBy : ℕ → ScriptState → List Move → Choice → Type 0
 IsNamedBy word script moves choice = (choices : List Choice) × AreChoices script moves choices
     × (slice_get choices (word % length choices) ≡ Some choice)
 
--- What a word makes of a choice. Of its values modulo 1,000, the first ones lose the message, and the next ones repeat
--- it. Faults befall only messages.
+-- How a word changes a choice. Its first values modulo 1,000 lose the message, and the next ones repeat it. Faults
+-- befall only messages.
 abbrev pub with_fault : FaultRates → ℕ → Choice → Choice
 with_fault faults word (Client client) = Client client
 with_fault faults word (Message place) =
@@ -150,8 +150,8 @@ with_fault faults word (Message place) =
 with_fault faults word (Lost place) = Lost place
 with_fault faults word (Repeated place) = Repeated place
 
--- how many words chance with faults draws for a step: one for a client's, and for a message's one more, which decides
--- its fault
+-- how many words chance with faults draws for a step: one for a client's step, and two for a message's, the second of
+-- which decides its fault
 abbrev pub words_in : Step → ℕ
 words_in (Ask node client name mode) = 1
 words_in (Leave node client name) = 1

@@ -47,11 +47,11 @@ abbrev pub client_at : ScriptState → ℕ → Option ScriptClient
 client_at script zero = None
 client_at script (suc place) = slice_get script.clients place
 
--- the script with one more client, at this node, which has nothing to do yet
+-- the script with another client, at this node, which has nothing to do yet
 abbrev pub with_client : ScriptState → ℕ → ScriptState
 with_client script node = record script { clients = script.clients ++ record { node = node; ops = [] } ∷ [] }
 
--- the new script is the old one with one more operation of the last client
+-- the new script is the old one with another operation of the last client
 abbrev pub AddsOp : ScriptState → Op → ScriptState → Type 0
 AddsOp old op new = (before : List ScriptClient) × (last : ScriptClient)
     × (old.clients ≡ before ++ last ∷ [])

@@ -56,7 +56,7 @@ client_of (Lose message) = None
 client_of (Repeat message) = None
 client_of (Forget node) = None
 
--- whether both are there, and the same
+-- whether both exist, and are the same
 abbrev pub are_one : Option ℕ → Option ℕ → Bool
 are_one None other = false
 are_one (Some client) None = false
@@ -96,8 +96,8 @@ abbrev pub IsFirstAlike : List Move → Sent → ℕ → Type 0
 IsFirstAlike moves message place = IsAlikeAt moves message place
     × ((earlier : ℕ) → earlier < place → IsAlikeAt moves message earlier → ⊥)
 
--- The choice by which a step is done again: the next operation of its client, or the same with the first message that
--- differs from its own at most in the number. No choice cancels or forgets.
+-- The choice that does a step again: the next operation of its client, or the same with the first message that differs
+-- from its own at most in the number. No choice cancels or forgets.
 abbrev pub IsFor : List Move → Step → Choice → Type 0
 IsFor moves (Ask node client name mode) choice = choice ≡ Client client
 IsFor moves (Leave node client name) choice = choice ≡ Client client
@@ -137,7 +137,7 @@ GoesOnOldest script moves after = (rest : List Move) × (after ≡ moves ++ rest
     × StandsFor script (moves ++ before) choice move.step)
 
 -- The moves of steps that are done again: first what each of them did, if it can be done then; then the oldest choice
--- of those that have begun, until there is none, or there are this many moves.
+-- of the clients that have begun, until there is none, or there are this many moves.
 pub record ComesOf (script : ScriptState) (steps : List Step) (limit : ℕ) (moves : List Move) : Type 0 where
   pub redone : List Move
   pub replays : Replays script [] steps redone

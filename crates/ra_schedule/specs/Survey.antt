@@ -87,7 +87,7 @@ tally_of test first outcomes =
     option_map (λ seed. record { seeds = length (filter test outcomes); first = seed })
     (position_from test first outcomes)
 
--- the tally with one more seed, after those that were counted
+-- the tally with another seed, after those that were counted
 abbrev pub tally_with : Option Tally → ℕ → Tally
 tally_with None seed = record { seeds = 1; first = seed }
 tally_with (Some tally) seed = record tally { seeds = tally.seeds + 1 }
@@ -116,9 +116,9 @@ NoneIsLost faults = IfSome faults (λ rates. rates.lose ≡ 0)
 abbrev pub NoneIsRepeated : Option FaultRates → Type 0
 NoneIsRepeated faults = IfSome faults (λ rates. rates.repeat ≡ 0)
 
--- Of a script whose clients take names in ascending order and give them all back, no seed is stuck unless messages are
--- lost. Of any script, no seed comes to a limit of at least `most_turns` unless messages are repeated. So under neither
--- of them each seed from the first to the last is counted as finished.
+-- If the clients of a script take names in ascending order and give them all back, no seed is stuck unless messages are
+-- lost. With any script, no seed comes to a limit of at least `most_turns` unless messages are repeated. So if no
+-- message is lost or repeated, each seed from the first to the last is counted as finished.
 pub record SeedsFinish (script : ScriptState) (faults : Option FaultRates) (limit first last : ℕ)
     (survey : Survey) : Type 0 where
   pub none_stuck : (IsOutOfOrder script → ⊥) → (IsUnreleased script → ⊥) → NoneIsLost faults → survey.stuck ≡ None

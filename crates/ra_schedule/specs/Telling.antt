@@ -10,7 +10,7 @@ pub record Told : Type 0 where
   pub seed : ℕ
   pub outcome : SeedOutcome
 
--- if it is known what an observer was told, this was told next
+-- if it is known what an observer has learned, it learned this next
 abbrev pub Tells : Option (List Told) → Option (List Told) → List Told → Type 0
 Tells None new more = ⊤
 Tells (Some old) None more = ⊥

@@ -45,9 +45,9 @@ pub enum Policy {
     /// number of choices. If there is no choice, no word is drawn and it ends. So a script and a seed have one run, the
     /// same on each machine.
     Seeded(u64),
-    /// The same chance, with faults. If the word names a message, the turn draws one word more, and that word modulo
-    /// 1,000 says what becomes of the message. Below the number of those that are lost it is lost, from there on below
-    /// the sum of both numbers it is repeated, and otherwise it is delivered.
+    /// The same chance, with faults. If the word names a message, the turn draws a second word, and that word modulo
+    /// 1,000 says what happens to the message. It is lost below the number of losses, repeated from there on below the
+    /// sum of both numbers, and otherwise delivered.
     Faulty { seed: u64, faults: Faults },
     /// These choices, one after the other, and then the end.
     Listed(Choices),

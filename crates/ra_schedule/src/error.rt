@@ -24,7 +24,7 @@ impl fmt::Display for NewScriptError {
     }
 }
 
-/// Why a client was not added, in the order in which the causes are looked for.
+/// Why a client was not added. The causes are looked for in this order.
 #[derive(Clone, Copy, Debug, PartialEq, Eq, Error)]
 pub enum AddClientError {
     /// There are 64 clients already, or the node is not 1 to the number of nodes.
@@ -39,7 +39,7 @@ impl fmt::Display for AddClientError {
     }
 }
 
-/// Why an operation was not added, in the order in which the causes are looked for.
+/// Why an operation was not added. The causes are looked for in this order.
 #[derive(Clone, Copy, Debug, PartialEq, Eq, Error)]
 pub enum AddOpError {
     /// There is no client.
@@ -61,7 +61,7 @@ impl fmt::Display for AddOpError {
     }
 }
 
-/// Why a script was not driven to an end, in the order in which the causes are looked for at each turn.
+/// Why a script was not driven to an end. The causes are looked for in this order at each turn.
 #[derive(Clone, Copy, Debug, PartialEq, Eq, Error)]
 pub enum DriveError {
     /// A choice is left after as many turns as there may be.

@@ -63,7 +63,7 @@ pub fn outcome_of(
 ///
 /// # Errors
 ///
-/// `Memory`: memory ran out at some seed. The observer was told of those before it.
+/// `Memory`: memory ran out at some seed. The observer has learned of those before it.
 pub fn survey<O: Observer>(
     alloc: Global,
     script: &Script,

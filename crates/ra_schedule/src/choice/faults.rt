@@ -47,7 +47,7 @@ impl Faults {
         }
     }
 
-    /// Returns what becomes of the message at this place, as a random word decides.
+    /// Returns what happens to the message at this place, as a random word decides.
     pub(crate) fn befall(self, word: u64, place: u64) -> Choice
         ensures { result ≡ with_fault self word (Choice.Message place) }
     {

@@ -9,7 +9,7 @@ use crate::script::node_clients::{NodeClients, members_at, node_clients_of};
 use crate::{Policy, Script};
 use ra_stamp::{Mark, Memory};
 use ra_world::{Step, World};
-// As in Rust, the traits by which a generator is seeded and gives its words are in that crate.
+// As in Rust, the traits that seed a generator and draw its words are in that crate.
 use rand_core::SeedableRng;
 use rand_pcg::Lcg128Xsl64;
 use std::alloc::Global;

@@ -8,8 +8,8 @@ use crate::driver::client_progress::Progress;
 use crate::{Choice, Script};
 use ra_world::World;
 
-/// Returns the oldest choice of those that have begun, or `None` if there is none: the first client that is enabled, in
-/// the order of the script, or, if no client is, the message that was sent first of those under way.
+/// Returns the oldest choice of the clients that have begun, or `None` if there is none: the first client that is
+/// enabled, in the order of the script, or, if no client is, the message under way that was sent first.
 pub fn oldest(script: &Script, world: &World, clients: &[Progress]) -> Option<Choice>
     requires { Tracks script.now world.now clients.now }
     ensures some { IfSome result (IsOldest script.now world.now.moves) }

@@ -32,7 +32,7 @@ pub fn first_free(script: &Script, clients: &[Progress], first: u32) -> u32
     script.clients()
 }
 
-/// Returns the place `first`, or the one of a client before it that entered, such that nobody before it did.
+/// Returns the place of the first client before `first` that entered, or `first` if there is none.
 pub fn first_entered(marks: &[Mark], first: u32) -> u32
     ensures not_past { result ≤ first }
     ensures none { NoneEnters result marks.now }
@@ -46,7 +46,7 @@ pub fn first_entered(marks: &[Mark], first: u32) -> u32
     place
 }
 
-/// Moves a client on by one operation, after which it waits if this is an ask.
+/// Moves a client on by one operation. It then waits if this is an ask.
 fn advance(list: &mut [Progress], client: u32, asks: bool)
     requires { AreCountable list.old }
     ensures others { (k : ℕ) (d : Progress) → k + 1 ≢ client

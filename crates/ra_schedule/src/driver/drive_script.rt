@@ -19,7 +19,7 @@ pub struct Recording {
     pub steps: Steps,
     /// The choices that the policy made, one for each step. As [`Policy::Listed`] they make the same run again.
     pub choices: Choices,
-    /// What came of the steps.
+    /// The outcome of the steps.
     pub report: Report,
     /// Whether every operation is done, and nothing waits, is queued or under way.
     pub finished: bool,
@@ -30,7 +30,7 @@ pub struct Recording {
 pub struct Summary {
     /// How many steps there were, one at each turn.
     pub turns: u64,
-    /// What came of the steps.
+    /// The outcome of the steps.
     pub report: Report,
     /// Whether every operation is done, and nothing waits, is queued or under way.
     pub finished: bool,
@@ -53,9 +53,9 @@ pub struct Driven {
     pub stuck: bool,
 }
 
-/// Drives a cluster through a script, from numbers that begin at 0. At each turn the policy makes a choice, whose
-/// step is made, until no choice is left. A turn costs time linear in the number of clients, on average, and that
-/// of `World::step_near`. Whether a client may ask takes time linear in the queue of the name that it asks for, if
+/// Drives a cluster through a script, from numbers that begin at 0. At each turn the policy makes a choice, and the
+/// choice's step is made, until no choice is left. A turn costs time linear in the number of clients, on average, plus
+/// that of `World::step_near`. Whether a client may ask takes time linear in the queue of the name that it asks for, if
 /// there was no memory to know the clients of a long one. The steps and choices take memory linear in the number of
 /// turns.
 ///
@@ -131,8 +131,8 @@ pub fn drive_through(
     Ok(ended(script, cluster))
 }
 
-/// Makes the cluster of a script, in which nothing has happened yet, and what drives it, which records the steps and
-/// choices, or none.
+/// Makes the cluster of a script, before its first step, and what drives it, which records the steps and choices, or
+/// none.
 ///
 /// # Errors
 ///

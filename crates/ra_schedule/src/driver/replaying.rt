@@ -57,8 +57,7 @@ fn place_like(world: &World, message: &Message) -> Option<u64>
     None
 }
 
-/// Returns the choice by which a step is done again, whether it can be made now or not, or `None` if there is no such
-/// message.
+/// Returns the choice that does a step again, whether it can be made now or not, or `None` if there is no such message.
 fn choice_for(world: &World, step: &Step) -> Option<Choice>
     ensures some { IfSome result (IsFor world.now.moves step.now) }
     ensures none { IsNone result → (choice : Choice) → IsFor world.now.moves step.now choice → ⊥ }

@@ -50,7 +50,7 @@ pub fn show(
     })
 }
 
-/// Returns the lines of the state to which a driver has come that recorded its steps.
+/// Returns the lines of the present state of a driver that recorded its steps.
 ///
 /// # Errors
 ///

@@ -32,9 +32,9 @@ pub fn ordered_scripts_finish()
         → Reports script.nodes 0 moves report → IsFinished script (steps_of moves) report }
 {}
 
-/// A finished run did what its script says. The marks that name a client are those of its operations, in order, at its
-/// node: Requested and Entered for each lock, and Left for each unlock. So each lock was granted, and no mark names
-/// anybody else. If each client gives back all that it takes, nothing is held.
+/// A finished run did what its script says. The marks that name a client are the marks of its operations, in order, at
+/// its node: Requested and Entered for each lock, and Left for each unlock. So each lock was granted, and no mark names
+/// any other client. If each client gives back all that it takes, nothing is held.
 pub fn finished_scripts_granted_each_lock()
     ensures plan { (script : ScriptState) (moves : List Move) (report : Report) → IsScript script
         → Performs script moves
@@ -77,9 +77,9 @@ pub fn policies_bring_scripts_to_rest()
         → Follows script policy moves → ¬ Stops script policy limit moves cause }
 {}
 
-/// By chance, without losses and repeats, each seed brings a script to its end within the limit, if that is at least
-/// `most_turns` and each client takes names in ascending order and gives them all back. So a survey counts each seed as
-/// finished.
+/// If chance chooses, without losses and repeats, each seed brings a script to its end within the limit, if that is at
+/// least `most_turns` and each client takes names in ascending order and gives them all back. So a survey counts each
+/// seed as finished.
 pub fn seeds_finish_ordered_scripts()
     ensures outcomes { (script : ScriptState) (faults : Option FaultRates) (limit seed : ℕ) (outcome : SeedOutcome)
         → IsScript script → ¬ IsOutOfOrder script → ¬ IsUnreleased script

@@ -1,4 +1,4 @@
-//! Whether the clients of a script take their names in order and give them back, and if not, where.
+//! Whether the clients of a script take their names in order and give them back, and if not, at which operation.
 ghost use Rattle.std.specs.Prelude.{◌≡◌, ◌↔◌, ◌<◌, ◌≤◌, ℕ, List, length, IsTrue, IsNone, IsSome, IfSome};
 ghost use Rattle.ra_schedule.specs.LockOrder.{IsOf, IsOutOfOrder, IsUnreleased, LocksOutOfOrder, EndsHolding, LocksAt, LocksBelow, NeverUnlocks, IsFirstBelow, IsFirstNeverUnlocked, IsFirstOutOfOrder, IsFirstUnreleased};
 ghost use Rattle.ra_schedule.specs.LockSearch.{NoneBelow};
@@ -27,10 +27,11 @@ pub struct Unreleased {
     pub place: u64,
 }
 
-/// Returns where the order of names is first broken, or `None` if each client takes its names in ascending order: of
-/// the first client that locks a name while it holds one that is not below it, by bytes, the first operation that does
-/// so. If several of the names held then are not below, the result tells the one that was locked first. It does not
-/// allocate. The cost is, for each client, the number of its operations times that of the names that it holds at once.
+/// Returns the operation that first breaks the order of names, or `None` if each client takes its names in ascending
+/// order. It is the first operation of the first such client that locks a name while the client holds one that is not
+/// below it, by bytes. If several of the names held then are not below, the result tells the one that was locked first.
+/// It does not allocate. The cost is, for each client, the number of its operations times the number of names that it
+/// holds at once.
 pub fn first_out_of_order(script: &Script) -> Option<OutOfOrder>
     ensures found { IsSome result ↔ IsOutOfOrder script.now }
     ensures first { IfSome result (λ found. IsFirstOutOfOrder script.now found) }
@@ -43,9 +44,10 @@ pub fn first_out_of_order(script: &Script) -> Option<OutOfOrder>
     None
 }
 
-/// Returns where a name is first kept, or `None` if each client gives its names back: of the first client that holds a
-/// name at its end, the first operation that locks a name that the client never unlocks. It does not allocate. The cost
-/// is, for each client, the number of its operations times that of the names that it holds at once.
+/// Returns the operation that first keeps a name, or `None` if each client gives its names back. It is the first
+/// operation, of the first client that holds a name at its end, that locks a name that the client never unlocks. It
+/// does not allocate. The cost is, for each client, the number of its operations times the number of names that it
+/// holds at once.
 pub fn first_unreleased(script: &Script) -> Option<Unreleased>
     ensures found { IsSome result ↔ IsUnreleased script.now }
     ensures first { IfSome result (λ found. IsFirstUnreleased script.now found) }

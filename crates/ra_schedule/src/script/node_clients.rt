@@ -59,8 +59,8 @@ pub fn node_clients_of(alloc: Global, script: &Script) -> Result<Vec<NodeClients
     Ok(node_clients)
 }
 
-/// Returns the clients of the node at which a step happens, or none if it is a loss or a repeat, or there is no such
-/// node.
+/// Returns the clients of the node at which a step happens, or none if the step is a loss or a repeat, or no such node
+/// exists.
 pub fn members_at<'a>(node_clients: &'a [NodeClients], step: &Step) -> &'a [u32]
     ensures { (client number : ℕ) → node_at step.now ≡ Some number
         → Contains (slice_index_or node_clients.now (number - 1) []) client

@@ -1,4 +1,4 @@
-//! The first seed by which a script comes to an end that is looked for.
+//! The first seed with which a script comes to an end that is looked for.
 ghost use Rattle.std.specs.Prelude.{◌≡◌, IfOk, OnErr};
 ghost use Rattle.ra_schedule.specs.Finding.{IsFirstSeed};
 ghost use Rattle.ra_schedule.specs.Finding as spec;
@@ -30,7 +30,7 @@ fn is_end(ending: Ending, outcome: SeedOutcome) -> bool
     }
 }
 
-/// Looks for the least seed of a range by which a script comes to an end by chance, with faults or without, within
+/// Looks for the least seed of a range with which a script comes to this end by chance, with faults or without, within
 /// `limit` turns. The observer learns of each seed up to that one. It costs what [`summarize`](crate::summarize) costs,
 /// for each of them.
 ///

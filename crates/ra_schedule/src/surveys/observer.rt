@@ -6,7 +6,7 @@ use crate::SeedOutcome;
 
 /// Is told of the run by each of many seeds, since all together may take long.
 pub trait Observer {
-    // Each seed and its outcome that the observer was told, in order, if its contract tells them.
+    // Each seed that the observer has learned of, with its outcome, in order, if its contract tells them.
     ghost told: { Self → Option (List Told) } = { λ _. None };
 
     /// Is called after the run of each seed, in their order, with its outcome.

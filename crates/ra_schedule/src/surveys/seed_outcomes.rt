@@ -51,7 +51,7 @@ pub struct Survey {
     pub messages: Option<Spread>,
 }
 
-/// Counts one more seed, which is above all that were counted.
+/// Counts a seed that is above all that were counted.
 fn counted(tally: Option<Tally>, seed: u64) -> Option<Tally>
     requires { IfSome tally (λ t. t.seeds < 2 ^ 64) }
     ensures { result ≡ Some (tally_with tally seed) }
@@ -68,7 +68,7 @@ fn counted(tally: Option<Tally>, seed: u64) -> Option<Tally>
     }
 }
 
-/// Takes one more number among those whose least and most are kept.
+/// Takes a number among those whose least and most are kept.
 fn widened(spread: Option<Spread>, number: u128) -> Option<Spread>
     ensures { (numbers : List ℕ) → IsLeastAndMost numbers spread → IsLeastAndMost (numbers ++ number ∷ []) result }
 {
@@ -97,7 +97,7 @@ pub fn no_survey() -> Survey
     }
 }
 
-/// Counts the outcome of one more seed, the one after those that were counted.
+/// Counts the outcome of the seed after those that were counted.
 pub fn with_outcome(survey: Survey, seed: u64, outcome: SeedOutcome) -> Survey
     requires { (first : ℕ) × (outcomes : List SeedOutcome) × Tallies first outcomes survey
         × (first + length outcomes ≡ seed) }

@@ -3,7 +3,7 @@ use Rattle.ra_stamp.specs.declared.entry.Mark.{Mark}
 use Rattle.ra_schedule.specs.Progress.{NoneEnters}
 use Rattle.ra_schedule.proofs.driver.client_progress.first_entered.Given as goal
 
--- nobody before the place entered by the marks so far
+-- no client before the place entered by the marks so far
 pub record SoFar (place first : ℕ) (marks : List Mark) : Type 0 where
   pub not_past : place ≤ first
   pub none : NoneEnters place marks

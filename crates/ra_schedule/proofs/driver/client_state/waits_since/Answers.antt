@@ -5,7 +5,7 @@ use Rattle.ra_schedule.proofs.driver.client_state.waits_since.Goals as goal
 pub loop-last-init : goal.loop-last-init
 loop-last-init c moves are waits = all_left c.args.client moves c.args.steps.now are waits
 
--- a step by which another client asks
+-- a step in which another client asks
 pub loop-last-preserved-else-asker-client : goal.loop-last-preserved-else-asker-client
 loop-last-preserved-else-asker-client c moves are waits =
     next_left c.args.client moves c.loop-last.rest.now c.in-Some.before.now c.in-Some.last.now c.in-Some.ensures.cases.0 (c.loop-last.invariant moves are waits)

@@ -13,7 +13,7 @@ use Rattle.ra_schedule.specs.Script.{ScriptState}
 use Rattle.ra_schedule.proofs.driver.until_refused.drive_until_refused.Goals as goal
 use Rattle.ra_schedule.proofs.driver.until_refused.drive_until_refused.Goals.{in-Ok, in-Err+in_default}
 
--- what is known of moves after which there is this refusal, or none
+-- what is known of moves that end in this refusal, or in none
 abbrev IsKnown : ScriptState → Policy → ℕ → List Move → Option DriveError → Type 0
 IsKnown script policy limit moves refusal = Follows script policy moves × (IsNone refusal → Ends script policy moves × (length moves ≤ limit))
     × IfSome refusal (Stops script policy limit moves)
