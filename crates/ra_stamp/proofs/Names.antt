@@ -29,7 +29,7 @@ pub name_is_utf8 : (bytes : List ℕ) → IsName bytes → IsUtf8 bytes
 name_is_utf8 bytes name =
     IsUtf8-from_ascii bytes (IsAscii-from_all bytes (All-weaker (λ b. is_name_byte b ≡ true) (λ b. b < 128) name_byte_is_ascii bytes name.each))
 
--- an array whose first bytes are copied, and then one more of them
+-- an array whose first bytes are copied, and then the next byte
 pub copied_more : (bytes before array : List ℕ) (i : ℕ) → i < length bytes → i < length before → array ≡ take i bytes ++ drop i before
     → slice_set array i (get_or bytes i 0) ≡ take (i + 1) bytes ++ drop (i + 1) before
 copied_more bytes before array i here room is =

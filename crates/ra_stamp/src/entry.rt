@@ -18,7 +18,7 @@ pub struct Entry {
     pub client: u32,
 }
 
-/// What became of an entry. It prints as a word and the entry: `request 1 7 r X 3`, `enter ..`, `leave ..` or
+/// What happened to an entry. It prints as a word and the entry: `request 1 7 r X 3`, `enter ..`, `leave ..` or
 /// `withdraw ..`.
 #[derive(Clone, Copy, Debug, PartialEq, Eq)]
 pub enum Mark {

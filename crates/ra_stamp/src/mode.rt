@@ -23,7 +23,7 @@ pub enum Mode {
 
 /// Returns whether two modes exclude each other. It does not allocate.
 ///
-/// Of the 25 pairs nine do not: two of `IS`, two of `IX`, two of `S`, and `IS` beside each of `IX`, `S` and `SIX`, in
+/// Nine of the 25 pairs do not: two of `IS`, two of `IX`, two of `S`, and `IS` beside each of `IX`, `S` and `SIX`, in
 /// either order.
 #[tactic(auto, unfolding(crate::specs::Mode::compatible))]
 pub fn conflicts(a: Mode, b: Mode) -> bool
