@@ -1,4 +1,4 @@
--- Lists in which one element was put, or from which one was taken, anywhere.
+-- Lists into which one element was put anywhere, or from which one was taken.
 use Rattle.std.proofs.Common.{◌≡◌, zero, suc, List, [], ◌∷◌, ◌++◌, length, get_or, All, AllPairs, Contains, refl, arith, inl, inr}
 use Rattle.std.specs.Prelude.{◌⊎◌}
 use Rattle.std.proofs.lemmas.List.Elements.{All-cons, All-head, All-tail, Contains-get_or, Contains-append_left, Contains-append_right, Contains-append_cases}

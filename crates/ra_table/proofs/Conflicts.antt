@@ -18,7 +18,7 @@ use Rattle.ra_table.proofs.Sound.{NotOfOneNode, NotOfOneNode-flip, IsSoundTable,
 abbrev pub ConflictIsSymmetric : Type 0
 ConflictIsSymmetric = (a b : Mode) → Conflict a b → Conflict b a
 
--- the law that of two different stamps one is earlier
+-- the law that one of two different stamps is earlier
 abbrev pub StampsAreTotal : Type 0
 StampsAreTotal = (a b : Stamp) → IsEarlier a b ⊎ ((a ≡ b) ⊎ IsEarlier b a)
 

@@ -1,4 +1,4 @@
--- Tables one after the other, and what becomes of them if one table changes or comes.
+-- Tables one after the other, and how they change if one table changes or is added.
 use Rattle.std.proofs.Common.{◌≡◌, ℕ, true, false, cond, List, [], ◌∷◌, ◌++◌, All, Any, Contains, ◌↔◌, Some, None, refl, sym, ap, ◌∙◌, subst, arith, inl, inr}
 use Rattle.std.specs.Str.{bytes_eq}
 use Rattle.std.specs.List.{AllByRecursion, IsDistinct}

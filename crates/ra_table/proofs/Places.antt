@@ -26,7 +26,7 @@ none_yet list e = below_none (λ k. get_or list k e ≢ e)
 
 -- ---- An entry of a kind
 
--- the next entry is none of the kind, either
+-- the next entry is not of the kind, either
 pub no_more : (P : Entry → Type 0) (xs : List Entry) (i : ℕ) (x : Entry) → i < length xs → x ≡ get_or xs i x → (P x → ⊥)
     → ((k : ℕ) (d : Entry) → k < i → P (get_or xs k d) → ⊥) → (k : ℕ) (d : Entry) → k < i + 1 → P (get_or xs k d) → ⊥
 no_more P xs i x within is not before k d less there =

@@ -102,7 +102,7 @@ held_apart e = cc
 earlier_apart : entering.Earlier ≡ entering.Memory → ⊥
 earlier_apart e = cc
 
--- an error says the same of whatever value there is none of
+-- an error says the same about any value, as it has none
 passed_on : {X Y : Type 0} (fault f : EnterError) (P : Type 0) → IsErrOf {T = X} (Err fault) f ↔ P → IsErrOf {T = Y} (Err fault) f ↔ P
 passed_on fault f P tells = (λ h. tells.0 (ap Err (same_error fault f h)), λ p. ap Err (same_error fault f (tells.1 p)))
 

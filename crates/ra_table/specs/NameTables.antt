@@ -10,7 +10,7 @@ use Rattle.ra_table.specs.Laws.{IsConflictFree}
 
 -- ---- The table of one name
 
--- the table in which this entry alone waits
+-- the table with this entry alone, which waits
 abbrev pub first_request : Entry → LockTable
 first_request e = record { waiting = e ∷ []; holding = []; granted = [] }
 
@@ -48,8 +48,8 @@ module _ {X : Type 0} (part : X → List Entry) where
   abbrev pub AreOnTheirNames : List (List ℕ × X) → Type 0
   AreOnTheirNames name_tables = AllByRecursion (λ name_table. AreOn name_table.0 (part name_table.1)) name_tables
 
--- this place, counted from 0, is that of the table of this name, the one that is found and written by the name. If the
--- name has none, the place is past the end, where nothing is found or written
+-- this place, counted from 0, is the place of this name's table, which is found and written by the name. If the name
+-- has no table, the place is past the end, where nothing is found or written
 pub record IsPlaceOf (name_tables : List (List ℕ × LockTable)) (name : List ℕ) (place : ℕ) : Type 0 where
   pub found : slice_get (values_of name_tables) place ≡ lookup (bytes_eq name) name_tables
   pub written : (new : LockTable) → set_value_at name_tables place new ≡ set_value (bytes_eq name) name_tables new

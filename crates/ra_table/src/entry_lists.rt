@@ -63,8 +63,8 @@ pub fn place_of(list: &[Entry], entry: &Entry) -> Option<usize>
     None
 }
 
-/// Puts the entry at the end of a list of few, in which no room is kept for more: there are as many such lists as
-/// names, and most have one entry at most.
+/// Puts the entry at the end of a list of few, which keeps no room for more: there are as many such lists as names, and
+/// most have one entry at most.
 ///
 /// # Errors
 ///

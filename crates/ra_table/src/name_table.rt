@@ -41,7 +41,7 @@ impl Model for NameTable {
 }
 
 impl NameTable {
-    /// Makes the table of a name that has none yet, in which this entry waits, and adds it after the other tables.
+    /// Makes the table of a name that has none yet, with this entry waiting, and adds it after the other tables.
     ///
     /// # Errors
     ///
@@ -165,7 +165,7 @@ impl NameTable {
         Ok(())
     }
 
-    /// Returns where the entry waits, if it may be granted.
+    /// Returns the place at which the entry waits, if it may be granted.
     ///
     /// # Errors
     ///

@@ -16,14 +16,14 @@ use std::alloc::Global;
 use std::marker::Model;
 
 /// The lock table: which entries wait, which hold, and which were granted so far. No two conflicting entries on
-/// one name hold. A name that was asked for is kept forever, also when nobody waits for it or holds it any more. So the
+/// one name hold. A name that was asked for is kept forever, even when nobody waits for it or holds it any more. So the
 /// table grows with the names, and not with the grants.
 ///
 /// Each name has a table of its own, so that a call looks at the entries on its entry's name alone. It looks for the
-/// name once, and a first request on a name twice. Of the grants a table keeps the highest number, with which a request
-/// is compared; only clauses and proofs see the grants themselves. A name is found by a fixed hash: among names that
-/// someone picked so that they collide, a look-up is linear in their number. A request, enter or leave does not hash
-/// the name of the last of these calls, or the name that first came after that one.
+/// name once, and a first request on a name twice. A table keeps only the highest number of its grants, and compares a
+/// request with it; only clauses and proofs see the grants themselves. A name is found by a fixed hash: if someone
+/// picks names that collide, a look-up is linear in their number. A request, enter or leave does not hash its name if
+/// the last of these calls had it, or if it first came after that one.
 pub struct Table {
     /// A table for each name on which an entry ever waited.
     name_tables: IndexMap<Name, NameTable>,
@@ -65,9 +65,9 @@ fn is_at(name_tables: &IndexMap<Name, NameTable>, place: usize, name: &Name) -> 
     }
 }
 
-/// Returns at which place the table of a name is, or the number of tables if it has none. It looks at the place that
-/// was found last, then at the next one, and only then by a hash of the name: most callers ask of one name several
-/// times, and of names in one order.
+/// Returns the place of a name's table, or the number of tables if the name has none. It looks at the place that
+/// was found last, then at the next one, and only then by a hash of the name: most callers ask about one name several
+/// times, and about names in one order.
 #[inline(always)]
 fn place_of_name(name_tables: &IndexMap<Name, NameTable>, latest: usize, name: &Name) -> usize
     requires { IsDistinct bytes_eq (keys_of name_tables.now.entries) }
@@ -84,8 +84,7 @@ fn place_of_name(name_tables: &IndexMap<Name, NameTable>, latest: usize, name: &
 }
 
 impl Table {
-    /// Makes the table in which nothing waits or holds, and nothing was granted. What it keeps grows by
-    /// `alloc`.
+    /// Makes the table in which nothing waits or holds, and nothing was granted. It allocates from `alloc` as it grows.
     ///
     /// # Errors
     ///
@@ -203,8 +202,8 @@ impl Table {
 
     /// Returns whether the entry may wait, unless memory runs out: its node neither waits nor holds on its name, and
     /// its number is above that of each entry granted so far on it. It takes expected time linear in the number of
-    /// entries that wait and hold on its name, and does not allocate: a checker asks it of a mark that is not due, for
-    /// which the table is not to grow.
+    /// entries that wait and hold on its name, and does not allocate: a checker asks it about a mark that is not due,
+    /// and the table is not to grow for that.
     pub fn can_request(&self, entry: &Entry) -> bool
         ensures allowed { IsTrue result ↔ MayRequest self.now entry.now }
         ensures exclusive { IsConflictFree self.now.holding }
