@@ -1,4 +1,4 @@
--- Drafts to which parts are added.
+-- Adding parts to drafts.
 use Rattle.std.proofs.Common.{◌≡◌, ℕ, List, [], ◌++◌, sym, ap, subst, ◌∙◌, append_assoc, append-nil}
 use Rattle.ra_text.specs.declared.draft.Draft.{Draft}
 use Rattle.ra_text.specs.Drafting.{Adds}
@@ -11,7 +11,7 @@ adds_nothing {a} = record { says = λ before is kept. is kept ∙ sym (append-ni
 pub adds_as : {a b : Draft} {x y : List ℕ} → Adds a x b → x ≡ y → Adds a y b
 adds_as {a} {b} {x} {y} adds same = record { says = λ before is kept. adds.says before is kept ∙ ap (λ (part : List ℕ). before ++ part) same }
 
--- the draft to which a part was added, by another name
+-- the draft after a part was added, by another name
 pub adds_to : {a b c : Draft} {x : List ℕ} → c ≡ b → Adds a x b → Adds a x c
 adds_to {a} {b} {c} {x} same adds = subst (λ (d : Draft). Adds a x d) (sym same) adds
 

@@ -94,7 +94,7 @@ reads_to_end old mid new limit count bytes buffer taken at_most more zero ends =
 pub then_came : (before added came after : List ℕ) → after ≡ before ++ added → added ≡ came → after ≡ before ++ came
 then_came before added came after is same = is ∙ ap (λ (bytes : List ℕ). before ++ bytes) same
 
--- so many bytes of a buffer, which was a prefix of a room, were read after others
+-- this many bytes of a buffer, which was a prefix of a room, were read after others
 pub record IsPiece (before room buffer : List ℕ) (limit most count : ℕ) : Type 0 where
   pub long : length (before ++ take count buffer) ≡ length before + count
   pub at_most : length (before ++ take count buffer) ≤ limit

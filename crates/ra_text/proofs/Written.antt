@@ -1,4 +1,4 @@
--- Bytes of which a prefix was written.
+-- Bytes with a prefix that was written.
 use Rattle.std.proofs.Common.{◌≡◌, ℕ, ◌-◌, List, ◌++◌, length, take, drop, sym, ap, ◌∙◌, append_assoc}
 use Rattle.std.proofs.lemmas.List.{take-append-drop, take_rest}
 

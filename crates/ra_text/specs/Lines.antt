@@ -1,4 +1,4 @@
--- Printed lines: those of marks and of totals, and the fields of lines. A line is words with one space between two, and
+-- Printed lines, of marks and of totals, and the fields of lines. A line is words with a single space between them, and
 -- a line feed at its end. Numbers are decimal, without leading zeros.
 use Rattle.std.specs.Prelude.{ℕ, List, ◌++◌, codes, decimal}
 use Rattle.ra_stamp.specs.Mark.{mark_word, entry_of_mark}

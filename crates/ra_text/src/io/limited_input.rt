@@ -21,7 +21,7 @@ const PIECE: usize = 512;
 /// # Errors
 ///
 /// `Read`: the reader failed, before it gave `limit` bytes. It is not tried again. `Memory`: there is none for the
-/// bytes. After either, at most `limit` bytes were taken from the reader, and nothing else is promised of it.
+/// bytes. After either, at most `limit` bytes were taken from the reader, and nothing else is promised about it.
 pub fn read_up_to<R: Read>(
     alloc: Global,
     reader: &mut R,
