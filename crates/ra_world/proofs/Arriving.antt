@@ -117,7 +117,7 @@ events_raise [] old new same name = omega (arith, ap (λ (x : NodeState). (resou
 events_raise (h ∷ hs) old new events name =
     omega (arith, event_raises old events.0 h.event h.sends h.marks events.1 name, events_raise hs events.0 new events.2 name)
 
--- a node at which a REQUEST was delivered has met its number
+-- a node to which a REQUEST was delivered has met its number
 pub arrived : (from to : ℕ) (name : List ℕ) (mode : Mode) (seq : ℕ) (ms : List Move) (old new : NodeState) → NodeEvents old (happened_at to ms) new
     → Contains (map (λ move. move.step) ms) (Deliver (Request from to name mode seq)) → seq ≤ (resource_at new name).state.highest
 arrived from to name mode seq [] old new events at = absurd (omega (arith, at.1))

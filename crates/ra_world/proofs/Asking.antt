@@ -38,7 +38,7 @@ inside_awaits_nobody s j seq seq' mode mode' inside awaits = not_waiting s.phase
     not_waiting : (phase : Phase) → phase ≡ Inside seq' mode' → phase ≡ Waiting seq mode → ⊥
     not_waiting phase e k = cc
 
--- a node that awaits nobody has no dialog in which it asks
+-- a node that awaits nobody asks in no dialog
 silent_of : {Lossy : Type 0} (r : List ℕ) (i j : ℕ) (si sj : State) (ms : List Message) → ((seq : ℕ) (mode : Mode) → Awaits si j seq mode → ⊥) → Dialog Lossy r i j si sj ms → IsSilent Lossy i j si sj ms
 silent_of {Lossy} r i j si sj ms nobody d = elim d [
   | inl silent ↦ silent

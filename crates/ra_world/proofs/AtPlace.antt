@@ -43,7 +43,7 @@ kept_back start nodes left left' moves moves' place old new keeps same is at bac
     let nodes_are : set nodes place new ≡ nodes = ap (set nodes place) (back ∙ at) ∙ set-get_or nodes place old in
     subst (λ (ns : List NodeState). Keeps start ns left' moves') (sym nodes_are) (kept_as start nodes left left' moves moves' keeps same is)
 
--- the world after one more move, at which one of the nodes changed
+-- the world after one more move, which changed one of the nodes
 pub moved : (start : ℕ) (nodes : List NodeState) (moves before after : List Move) (w : WorldState) (place : ℕ) (new : NodeState) (step : Step)
     (sends : List Message) (marks : List Mark)
     → shown start nodes moves ≡ w → before ≡ moves → after ≡ before ++ record { step = step; sends = sends; marks = marks } ∷ []
@@ -66,7 +66,7 @@ known_at nodes place old many consistent within at =
 pub sends_fit_still : (sends room spare : ℕ) → sends ≤ room → room ≤ spare → sends ≤ spare
 sends_fit_still sends room spare few more = omega arith
 
--- one more move that sends and marks nothing, of equal lists
+-- one more move that sends and marks nothing, for equal lists
 pub quiet_move : (moves before after : List Move) (step this : Step) → before ≡ moves → step ≡ this
     → after ≡ before ++ record { step = step; sends = []; marks = [] } ∷ []
     → after ≡ moves ++ record { step = this; sends = []; marks = [] } ∷ []

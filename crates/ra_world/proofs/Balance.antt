@@ -101,7 +101,7 @@ others_count p n within = count_but_one p 1 n within.0 (omega (arith, within.1))
 abbrev pub owed : Resource → ℕ
 owed r = finmap.len r.state.deferred
 
--- what is sent, with the REQUESTs under way and the deferrals, grows by so many for each request
+-- what is sent, with the REQUESTs under way and the deferrals, grows by this many for each request
 abbrev pub IsBalanced : ℕ → ℕ → ℕ → List Message → Resource → Resource → List Mark → Type 0
 IsBalanced each was left sends before after marks = length sends + (left + asking sends) + owed after ≡ was + owed before + each * requests_in marks
 

@@ -1,4 +1,4 @@
--- Room for what comes of a message.
+-- Room for what a message brings.
 use Rattle.std.proofs.Common.{ℕ, ◌≤◌, List, length, arith}
 use Rattle.ra_stamp.specs.declared.entry.Mark.{Mark}
 use Rattle.ra_stamp.specs.declared.message.Message.{Message}
@@ -8,7 +8,7 @@ use Rattle.ra_node.specs.Events.{Event as acts}
 use Rattle.ra_node.specs.Carried.{replies_at_most, entries_at_most}
 use Rattle.ra_world.specs.StepLog.{LogState, HasRoom}
 
--- for the most that comes of it
+-- for the most that it brings
 pub fits : ((old new : NodeState) (message : Message) (sends : List Message) (marks : List Mark) → NodeEvent old (acts.Receive message) sends marks new
     → (length sends ≤ replies_at_most message) × (length marks ≤ entries_at_most message))
     → (s : NodeState) (message : Message) (spare : ℕ) (log : LogState) → replies_at_most message ≤ spare → HasRoom log (entries_at_most message)

@@ -75,7 +75,7 @@ leads_request : (entered : Bool) (w w' : Use) (e : Entry) → MarksLead w (reque
 leads_request false w w' e leads = (leads.0, leads.1)
 leads_request true w w' e leads = (leads.0, leads.1.1)
 
--- the mark of the end of a request leads from its use to nobody
+-- before the mark of a request's end its client uses the resource, and after it nobody does
 abbrev LeadsEnd : (Entry → Mark) → (Entry → Use) → Type 0
 LeadsEnd mark was = (e : Entry) (marks : List Mark) (w w' : Use) → MarksLead w (mark e ∷ marks) w' → (w ≡ was e) × MarksLead Nobody marks w'
 
@@ -91,7 +91,7 @@ pub record Turned (nodes nodes' : ℕ → NodeState) (p : ℕ) (new : NodeState)
   pub here : nodes' p ≡ new
   pub there : (k : ℕ) → k ≢ p → nodes' k ≡ nodes k
 
--- what came of an event at a node, on a name: its resource went on, all others stayed
+-- the outcome of an event at a node, on a name: its resource went on, all others stayed
 pub record Went (n : ℕ) (nodes nodes' : ℕ → NodeState) (p : ℕ) (r : List ℕ) (new : NodeState) (sends : List Message) : Type 0 where
   pub within : IsNode n p
   pub turned : Turned nodes nodes' p new

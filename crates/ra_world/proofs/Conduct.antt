@@ -40,7 +40,7 @@ module _ {Lossy Copied : Type 0} (start n : ℕ) (r : List ℕ) (s s' : ℕ → 
         exact = λ none. leave_kept n r s s' bag p new (old.exact none) within changes sends step placed;
       }
 
-  -- a withdrawal leaves a REQUEST under way or deferred to which no request of the node belongs any more
+  -- after a withdrawal a REQUEST is under way or deferred that belongs to no request of the node any more
   pub withdraw_conduct : Copied → (sends : List Message) → WithdrawStep (s p) sends new → IsPlaced n r p new → Conduct Lossy Copied start n r s' (bag ++ sends)
   withdraw_conduct copied sends step placed =
       record {

@@ -1,4 +1,4 @@
--- The dialog of two nodes about a name: the messages under way by which one asks and the other answers.
+-- The dialog of two nodes about a name: the messages under way with which one asks and the other answers.
 use Rattle.std.proofs.Common.{◌≡◌, ◌≢◌, ℕ, zero, suc, ◌+◌, ◌<◌, ◌≤◌, Bool, true, false, cond, not, ◌&&◌, T, List, [], ◌∷◌, All, filter, map, Option, Some, None, refl, sym, ap, ◌∙◌, subst, arith, nat_eq, inl, inr}
 use Rattle.std.specs.Prelude.{◌==◌, bytes_eq}
 use Rattle.std.specs.List.{range_with_len}

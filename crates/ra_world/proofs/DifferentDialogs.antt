@@ -64,7 +64,7 @@ one_less t ms m rest takes =
     first true = omega arith
     first false = omega arith
 
--- no message of a kind is there if all numbers are lower
+-- no message of a kind is present if all numbers are lower
 pub none_asked : (seq : ℕ) (ms : List Message) → All (λ m. seq_of m < seq) ms → asked_for seq ms ≡ 0
 none_asked seq [] all = refl
 none_asked seq (Request from to name mode k ∷ ms) all =
@@ -94,8 +94,9 @@ not_among r i j seq (Reply from to name k ∷ ms) none = of_test (nat_eq k seq) 
 
 -- ---- What was said
 
--- What was said when i asks and j answers, with what of it is under way. The asker has met the numbers of all. Of each number, the
--- REQUESTs that are under way, a deferral and the REPLYs that were sent are one at most, if no message is repeated.
+-- What was said when i asks and j answers, and which part of it is under way. The asker has met all the numbers. For
+-- each number, the REQUESTs that are under way, a deferral and the REPLYs that were sent are one at most, if no message
+-- is repeated.
 pub record Said (r : List ℕ) (i j : ℕ) (si sj : State) (ms hs : List Message) : Type 0 where
   pub different : AreDifferent hs
   pub met : All (λ m. seq_of m ≤ si.highest) hs

@@ -68,7 +68,7 @@ said_by_forget n nodes nodes' p bag sent sends marks there event said r =
           (omega (arith, ap (λ (x : Resource). x.state.highest) (event.resources r)), ap (λ (x : Resource). x.state.deferred) (event.resources r))
     ]
 
--- what came of an event at a node, on a name: its resource went on, all others stayed
+-- the outcome of an event at a node, on a name: its resource went on, all others stayed
 pub record Happens (n : ℕ) (nodes nodes' : ℕ → NodeState) (p : ℕ) (r : List ℕ) (sends : List Message) : Type 0 where
   pub within : IsNode n p
   pub there : (k : ℕ) → IsNode n k → k ≢ p → nodes' k ≡ nodes k
@@ -174,7 +174,7 @@ module _ {Lossy : Type 0} (start n : ℕ) (nodes nodes' : ℕ → NodeState) (p 
       let all : (xs : List Message) → (xs ++ step.replies) ++ step.requests ≡ xs ++ sends = λ xs. append_assoc xs step.replies step.requests ∙ sym (ap (λ (ys : List Message). xs ++ ys) step.sends_are) in
       subst (λ (xs : List Message). AllSaid n r s' xs (sent ++ sends)) (all bag) (subst (λ (xs : List Message). AllSaid n r s' ((bag ++ step.replies) ++ step.requests) xs) (all sent) asked)
     where
-      -- the REPLYs are of the dialogs in which p answers
+      -- the REPLYs belong to the dialogs in which p answers
       replies_to_others : (x : ℕ) → x ≢ p → (replies : List Message) → EndStep (s p) replies step.between → between r p x replies ≡ []
       replies_to_others x apart replies ends =
           ap (between r p x) (ends.sends_are ∙ (λ i. map (λ e. Reply (placed.me_is i) e.0 (placed.name_is i) e.1) (finmap.entries (s p).deferred)))

@@ -87,7 +87,7 @@ nothing_left ms m rest x takes one = go takes.prefix takes.suffix (sym takes.old
     go (y ∷ []) suffix e is = absurd cc
     go (y ∷ z ∷ prefix) suffix e is = absurd cc
 
--- ---- Lists of which some messages are taken
+-- ---- Lists from which some messages are taken
 
 all_but_one : (P : Message → Type 0) (prefix suffix : List Message) (m : Message) → All P (prefix ++ m ∷ suffix) → All P (prefix ++ suffix)
 all_but_one P [] suffix m all = All-tail P m suffix all

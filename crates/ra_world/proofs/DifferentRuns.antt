@@ -38,7 +38,7 @@ use Rattle.std.specs.FinMap as finmap
 abbrev IsBetween : ℕ → Message → Type 0
 IsBetween n m = IsNode n (to_of m) × IsOtherNode (to_of m) n (from_of m)
 
--- what is known of a run: its messages go between nodes, and those of each dialog are different
+-- what is known of a run: its messages go between nodes, and the messages of each dialog are different
 pub record Known (n start : ℕ) (moves : List Move) (at : Reached (Unit {0}) (Unit {0}) n start moves) : Type 0 where
   pub traffic : All (IsBetween n) (sent_by moves)
   pub said : EverySaid n at.nodes at.bag (sent_by moves)
@@ -237,7 +237,7 @@ module _ (laws : LawsBelow) (n start : ℕ) where
     reached : (moves : List Move) → IsRun n start moves → Reached (Unit {0}) (Unit {0}) n start moves
     reached moves run = every_run laws n start moves (allows_all moves) count run
 
-    -- one move after the other, of which none repeats a message
+    -- one move after the other, none of them a repeat
     move_by_move : (suffix ms : List Move) (run : IsRun n start ms) → repeated_by suffix ≡ [] → Known n start ms (reached ms run) → IsRun n start (ms ++ suffix) → AreDifferent (sent_by (ms ++ suffix))
     move_by_move [] ms run none known all = subst (λ (moves : List Move). AreDifferent (sent_by moves)) (sym (append-nil ms)) (all_different n start ms (reached ms run) known)
     move_by_move (m ∷ suffix) ms run none known all =

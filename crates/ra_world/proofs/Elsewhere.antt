@@ -1,4 +1,4 @@
--- What a run goes on with at a node, after one more move at another one.
+-- How a run goes on at a node, after a move at another one.
 use Rattle.std.proofs.Common.{eq-eqb, ◌≡◌, ◌≢◌, ◌↔◌, ℕ, ◌≤◌, List, [], ◌∷◌, ◌++◌, map, refl, sym, ap, ◌∙◌, subst, inl, inr}
 use Rattle.std.specs.Prelude.{if◌then◌else◌}
 use Rattle.std.proofs.lemmas.Bool.{ne_eqb}
@@ -24,7 +24,7 @@ module _ (n start : ℕ) (moves : List Move) (move : Move) (before : IsRun n sta
       ∙ ap (λ (es : List Event). happened_at i moves ++ map (λ event. record { event = event; sends = move.sends; marks = move.marks }) es) none
       ∙ append-nil (happened_at i moves)
 
-  -- the nodes after the move, of which the one at which nothing happened is as it was
+  -- the nodes after the move: the one at which nothing happened is as it was
   abbrev behind : ℕ → ℕ → NodeState
   behind i = with_node run.ends.0 i (before.ends.0 i)
 

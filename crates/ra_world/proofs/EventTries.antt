@@ -77,7 +77,7 @@ cancel_refused s moves client name cancel.Memory cause is free may =
 
 -- ---- A step that is tried at the node of a place
 
--- what comes of it for the world
+-- its outcome for the world
 tried_at : {keeps : ℕ} (start : ℕ) (nodes : List NodeState) (kept kept' : KeptSteps keeps) (place : ℕ) (w : WorldState) (step : Step) (event : Event)
     (old new : NodeState) (r : Result Outcome StepError)
     → shown start nodes kept.log.moves ≡ w → old ≡ get_or nodes place old
@@ -286,7 +286,7 @@ pub taken_as : (before left new : List Message) (message : Message) (moves moves
 taken_as before left new message moves moves' same is taken =
     subst (λ (ms : List Move). TakesEqual ms left message new) is (subst (λ (ls : List Message). TakesEqual moves' ls message new) same taken)
 
--- the node at its place is that for which it is
+-- the node at its place is its receiver
 pub for_node : (nodes : List NodeState) (place i : ℕ) (old : NodeState) (message : Message) → place + 1 ≡ i → place < length nodes → old ≡ get_or nodes place old
     → IsForNode (nodes_of nodes i).me (nodes_of nodes i).nodes message → IsForNode old.me old.nodes message
 for_node nodes place i old message number within at it =

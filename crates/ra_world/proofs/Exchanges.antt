@@ -1,7 +1,7 @@
--- What holds of the automata of one name and of the messages under way also if messages were repeated. Of two nodes, of which one
--- asks and the other answers, any copy of a REQUEST or a REPLY may be under way, an old one too. No number in them is above that of the
--- asker's own request, a REPLY to that one is from a node that lets it pass, and a node that is awaited has a REQUEST under way to it, defers
--- its REPLY, or has a REPLY under way, unless a message was lost.
+-- What holds of the automata of one name and of the messages under way even if messages were repeated. When one of two
+-- nodes asks and the other answers, any copy of a REQUEST or a REPLY may be under way, an old one too. No number in
+-- them is above that of the asker's own request, a REPLY to that one is from a node that lets it pass, and a node that
+-- is awaited has a REQUEST under way to it, defers its REPLY, or has a REPLY under way, unless a message was lost.
 use Rattle.std.proofs.Common.{◌≡◌, ◌≢◌, ◌⊎◌, ℕ, ◌<◌, ◌≤◌, List, [], ◌∷◌, Contains, Some, zero, suc, refl, sym, ap, ◌∙◌, subst, arith, inl, inr}
 use Rattle.std.specs.Prelude.{IsTrue}
 use Rattle.std.specs.FinSet as set
@@ -106,7 +106,7 @@ module _ {Lossy : Type 0} (start : ℕ) (r : List ℕ) (i j : ℕ) (si si' sj sj
         pending = pending;
       }
 
--- the same messages and deferrals are there, or more
+-- the same messages and deferrals exist, or more
 pub pending_still : {Lossy : Type 0} (r : List ℕ) (i j : ℕ) (sj sj' : State) (ms ms' : List Message) (seq : ℕ) (mode : Mode) → (Holds sj i seq mode → Holds sj' i seq mode) → ((m : Message) → Contains ms m → Contains ms' m)
     → Pending Lossy r i j sj ms seq mode → Pending Lossy r i j sj' ms' seq mode
 pending_still {Lossy} r i j sj sj' ms ms' seq mode holds more was = elim was [

@@ -35,7 +35,7 @@ later_used start s (Some k) seq before used =
     let was = before k refl in
     record { above = omega (arith, was.above, used.above); reached = omega (arith, was.reached, used.reached); not_later = λ own mode has. omega (arith, was.not_later own mode has, used.not_later own mode has) }
 
--- and it is that of the own request if neither is above it and one is it
+-- and it is the own request's number if neither is above it and one is equal to it
 later_is : (o : Option ℕ) (seq own : ℕ) → ((k : ℕ) → o ≡ Some k → k ≤ own) → seq ≤ own → (seq ≡ own) ⊎ (o ≡ Some own) → later_of o seq ≡ own
 later_is None seq own before low is = elim is [ inl same ↦ same | inr none ↦ absurd (no own none) ]
   where
@@ -295,7 +295,7 @@ module _ {Lossy : Type 0} (start n : ℕ) (r : List ℕ) (s s' : ℕ → State) 
         ])
         (passes_after_reply (s p) new x seq entered mode step) within
 
--- ---- A message goes by which nothing changes
+-- ---- A message that changes nothing is delivered
 
 module _ {Lossy : Type 0} (start n : ℕ) (r : List ℕ) (s : ℕ → State) (bag rest : List Message) (m : Message) (old : Exchanges Lossy start n r s bag) (takes : TakesFirst bag m rest)
     (asked : (i j seq : ℕ) (mode : Mode) → Awaits (s i) j seq mode → m ≡ Request i j r mode seq → Lossy)

@@ -29,7 +29,7 @@ use Rattle.ra_world.proofs.Runs.{nothing_happened}
 
 -- ---- The next happening of a node
 
--- so many happenings of a list are before one of this event
+-- this many happenings of a list are before one of this event
 record IsNextEvent (happenings : List Happening) (before : ℕ) (event : Event) : Type 0 where
   this : Happening
   later : List Happening
@@ -52,12 +52,12 @@ next_of (x ∷ events) event more (h ∷ hs) e =
       with_this = ap (λ (ys : List Happening). h ∷ ys) rest.with_this;
     }
 
--- ---- What one more step adds
+-- ---- What the next step adds
 
 events_more : (i : ℕ) (prefix : List Step) (step : Step) → flat_map (events_at i) (prefix ++ step ∷ []) ≡ flat_map (events_at i) prefix ++ events_at i step
 events_more i prefix step = sym (flat_map_more (events_at i) [] prefix step)
 
--- to what the node did of which it is an event
+-- to what its node did
 done_more : (happenings : List Happening) (i : ℕ) (prefix : List Step) (step : Step) (event : Event) → events_at i step ≡ event ∷ []
     → (next : IsNextEvent happenings (length (flat_map (events_at i) prefix)) event)
     → happened_by happenings i (prefix ++ step ∷ []) ≡ happened_by happenings i prefix ++ next.this ∷ []

@@ -254,7 +254,7 @@ module _ (old new : NodeState) (sends : List Message) (marks : List Mark) (c : �
         (busy_here event happened named (subst (λ (q : List ℕ). IsBusy (resource_at new q) c) same busy))
   ]
 
-  -- who is at a name after an event was there before, or asked for it
+  -- whoever is at a name after an event was at it before, or asked for it
   was_busy : (event : Event) → NodeEvent old event sends marks new → (name : List ℕ) → IsBusy (resource_at new name) c → IsBusy (resource_at old name) c ⊎ IsAskOf event c name
   was_busy (acts.Ask client q mode) happened name busy = busy_named (acts.Ask client q mode) happened tt name busy
   was_busy (acts.Leave client q) happened name busy = busy_named (acts.Leave client q) happened tt name busy

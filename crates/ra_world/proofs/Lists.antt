@@ -78,7 +78,7 @@ takes_more xs m ys more takes =
       new_is = ap (λ (zs : List Message). zs ++ more) takes.new_is ∙ append_assoc takes.prefix takes.suffix more;
     }
 
--- a message that is there can be taken
+-- a message that is present can be taken
 pub takes_out : ((a b : Message) → (a ≡ b) ⊎ (a ≢ b)) → (xs : List Message) (m : Message) → Contains xs m → (ys : List Message) × TakesFirst xs m ys
 takes_out same_or_apart [] m at = absurd (omega (arith, at.1))
 takes_out same_or_apart (x ∷ xs) m (zero, lt, is) = (xs, record { prefix = []; suffix = xs; old_is = ap (λ (y : Message). y ∷ xs) is; first = All-nil (λ y. y ≢ m); new_is = refl })

@@ -104,7 +104,7 @@ withdrawn_in-take marks i mark low is =
 pub withdrawn_in-take-le : (marks : List Mark) (i : ℕ) → withdrawn_in (take i marks) ≤ length marks
 withdrawn_in-take-le marks i = omega (arith, withdrawn_in_le (take i marks), length-take i marks)
 
--- so many marks have no more requests
+-- this many marks have no more requests
 pub requests_in-take-le : (marks : List Mark) (i : ℕ) → requests_in (take i marks) ≤ length marks
 requests_in-take-le marks i = omega (arith, requests_in_le (take i marks), length-take i marks)
 
@@ -117,7 +117,7 @@ pub repeated-le : (keeps : ℕ) (moves : List Move) (steps : ℕ) (marks : List 
     → AreCounted keeps moves steps marks sent requests lost repeated withdrawn → repeated ≤ steps
 repeated-le keeps moves steps marks sent requests lost repeated withdrawn h = omega (arith, h.repeated_are, repeated_by_le moves, h.steps_are)
 
--- one more step with what came of it
+-- one more step with its outcome
 pub made_more : (made : List (Step × Outcome)) (one : Step × Outcome) → moves_of (made ++ one ∷ []) ≡ moves_of made ++ move_of one ∷ []
 made_more [] one = refl
 made_more (x ∷ made) one = ap (λ (ms : List Move). move_of x ∷ ms) (made_more made one)

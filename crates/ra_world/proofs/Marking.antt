@@ -55,7 +55,7 @@ one e x (suc k, lt, is) = absurd (omega (arith, lt))
 placed : (es : List Entry) (k : ℕ) (d : Entry) → k < length es → Contains es (get_or es k d)
 placed es k d lt = (k, lt, get_or_default es k (get_or es k d) d lt)
 
--- one that is left was there before
+-- what is left was in the list before
 still : (es left : List Entry) {e : Entry} → Loses es e left → (x : Entry) → Contains left x → Contains es x
 still es left {e} loses x at =
     let split = subst (λ (ys : List Entry). Contains ys x) loses.2 at in

@@ -18,7 +18,7 @@ use Rattle.ra_world.proofs.Protocol.{IsNode}
 use Rattle.ra_world.proofs.Reached.{Reached, was_under_way, event_happened}
 use Rattle.ra_world.proofs.Runs.{every_run, prefixes}
 
--- a run of which this is the next move
+-- a run whose next move this is
 module _ (laws : LawsBelow) (n start : ℕ) (count : IsNodeNumber n) (m : Move) (suffix ms : List Move) (run : IsRun n start (ms ++ m ∷ suffix)) where
   pub longer : IsRun n start ((ms ++ m ∷ []) ++ suffix)
   longer = subst (IsRun n start) (sym (append_assoc ms (m ∷ []) suffix)) run

@@ -1,4 +1,5 @@
--- Lists of moves: what one more move adds to them, at which node a step is an event, and which messages they lose or repeat.
+-- Lists of moves: what the next move adds to them, at which node a step is an event, and which messages they lose or
+-- repeat.
 use Rattle.std.proofs.Common.{◌≡◌, ◌≢◌, ℕ, true, false, List, [], ◌∷◌, ◌++◌, map, refl, sym, ap, ◌∙◌, subst, append_assoc, arith, ◌+◌, ◌⊎◌, inl, inr}
 use Rattle.std.specs.Prelude.{◌==◌, if◌then◌else◌}
 use Rattle.std.proofs.lemmas.List.{append-nil}

@@ -1,4 +1,4 @@
--- The nodes at the end of a list of moves, and what one more event makes of them.
+-- The nodes at the end of a list of moves, and how the next event changes them.
 use Rattle.std.proofs.Common.{◌≡◌, ◌⊎◌, ℕ, cond, List, [], ◌∷◌, ◌++◌, map, refl, sym, ap, ◌∙◌, subst, inl, inr}
 use Rattle.std.proofs.lemmas.List.{append-nil}
 use Rattle.std.proofs.lemmas.Bool.{eq-eqb, ne_eqb}
@@ -17,7 +17,7 @@ put_node nodes p new = record {
   there = λ k apart. ap (λ b. cond b new (nodes k)) (ne_eqb p k (λ e. apart (sym e)));
 }
 
--- nodes of which each meets what some node meets
+-- nodes that each meet what some node meets
 pub choose : (n : ℕ) (P : ℕ → NodeState → Type 0) → (ℕ → NodeState) → ((i : ℕ) → IsNode n i → (node : NodeState) × P i node)
     → (nodes : ℕ → NodeState) × ((i : ℕ) → IsNode n i → P i (nodes i))
 choose n P default each = (λ i. pick i (cases_node n i), λ i at. picked i at (cases_node n i))
@@ -30,7 +30,7 @@ choose n P default each = (λ i. pick i (cases_node n i), λ i at. picked i at (
     picked i at (inl found) = (each i found).1
     picked i at (inr none) = absurd (none at)
 
--- some node is there at the end
+-- some node exists at the end
 abbrev pub EndsAt : ℕ → ℕ → List Move → ℕ → Type 0
 EndsAt n start moves i = (last : NodeState) × NodeEvents (opening_node i n start) (happened_at i moves) last
 

@@ -1,4 +1,5 @@
--- A run in which one request overtakes another, whose REQUEST has arrived: two nodes ask at once, and the lower one goes first.
+-- A run in which one request overtakes another although its REQUEST has arrived: two nodes ask at once, and the lower
+-- one goes first.
 use Rattle.std.proofs.Common.{◌≡◌, ◌≢◌, ℕ, zero, suc, ◌+◌, ◌-◌, ◌<◌, cond, true, false, max, map, get_or, List, [], ◌∷◌, ◌++◌, Contains, Some, refl, sym, ap, ◌∙◌, subst, arith, inl, inr}
 use Rattle.std.specs.FinSet as set
 use Rattle.std.specs.FinMap as finmap

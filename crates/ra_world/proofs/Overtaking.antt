@@ -1,4 +1,5 @@
--- Who overtakes a waiting entry in steps of the lock table, if the requests that are made meanwhile have greater numbers.
+-- Which entries overtake a waiting one in steps of the lock table, if the requests that are made meanwhile have greater
+-- numbers.
 use Rattle.std.proofs.Common.{◌≡◌, ◌≢◌, ◌⊎◌, ℕ, zero, suc, ◌<◌, List, [], ◌∷◌, ◌++◌, All, Contains, Some, sym, ap, ◌∙◌, subst, arith, inl, inr}
 use Rattle.std.proofs.lemmas.Option.{same_Some}
 use Rattle.std.proofs.lemmas.Bool.{cases_lt}

@@ -1,6 +1,6 @@
 -- What holds of the automata of one name, one at each node, and of the messages under way, at any moment. The dialog of
--- two nodes, of which one asks and the other answers, is silent, or the REQUEST is under way, or it is deferred, or the
--- REPLY is under way; and a node that has answered has met the number and has no request that goes first.
+-- a node that asks and one that answers is silent, or the REQUEST is under way, or it is deferred, or the REPLY is
+-- under way; and a node that has answered has met the number and has no request that goes first.
 use Rattle.std.proofs.Common.{◌≡◌, ◌≢◌, ◌⊎◌, ℕ, ◌≤◌, List, [], ◌∷◌, Some, None, sym, ap, ◌∙◌, subst, arith, inl, inr}
 use Rattle.std.specs.Prelude.{IsTrue}
 use Rattle.std.specs.FinSet as set

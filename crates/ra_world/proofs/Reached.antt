@@ -52,7 +52,7 @@ pub record Reached (Lossy Copied : Type 0) (n start : ℕ) (moves : List Move) :
   pub joined : ℕ
   pub none_joined : (Copied → ⊥) → joined ≡ 0
   pub balance : length (sent_by moves) + asking bag + asking (lost_by moves) + over owed nodes 1 n + joined ≡ 2 * (n - 1) * requests_in (marks_of moves) + asking (repeated_by moves)
-  -- the number with which names begin that the node has not met, or has forgotten
+  -- the first number of names that the node has not met, or has forgotten
   pub starts : (i : ℕ) → IsNode n i → (nodes i).start ≤ start + requests_in (marks_of moves)
   pub highest : (i : ℕ) → IsNode n i → (r : List ℕ) → (resource_at (nodes i) r).state.highest ≤ start + requests_in (marks_of moves)
   pub raising : All (RaisesTo (start + requests_in (marks_of moves))) bag

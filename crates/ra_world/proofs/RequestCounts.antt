@@ -1,4 +1,5 @@
--- How many requests were made: as many as there were asks, without those of clients that are still queued or were queued when they gave up.
+-- How many requests were made: one for each ask, except those of clients that are still queued or were queued when they
+-- gave up.
 use Rattle.std.proofs.Common.{◌≡◌, ℕ, ◌+◌, ◌≤◌, Bool, true, false, List, [], ◌∷◌, ◌++◌, length, refl, sym, ap, ◌∙◌, subst, append_assoc, arith, inl, inr}
 use Rattle.std.proofs.lemmas.List.{length-append, append-nil}
 use Rattle.ra_stamp.specs.declared.message.Message.{Message}
@@ -50,7 +51,8 @@ cancels_of acts.Forget = 0
 
 -- ---- One turn
 
--- how many requests the marks make and withdraw, with the queue after them, as the queue before with so many asks and without so many cancels
+-- how many requests the marks make and withdraw, with the queue after them, as the queue before with this many asks and
+-- without this many cancels
 record Counts (asks cancels : ℕ) (old new : Resource) (marks : List Mark) : Type 0 where
   made : requests_in marks + length new.queue + cancels ≡ length old.queue + asks + withdrawn_in marks
   few : withdrawn_in marks ≤ cancels
@@ -78,7 +80,7 @@ ask_counts old client mode sends marks new turn = elim turn.1 [
       }
 ]
 
--- the mark of an end is no request, and withdraws so many
+-- the mark of an end is no request, and withdraws this many
 end_counts : (Ends : Entry → List Message → Resource → Type 0) (mark : Entry → Mark) (withdraws : ℕ) (old : Resource) → AreEnded old Ends
     → ((e : Entry) (ms : List Mark) → (requests_in (mark e ∷ ms) ≡ requests_in ms) × (withdrawn_in (mark e ∷ ms) ≡ withdrawn_in ms + withdraws))
     → (sends : List Message) (marks : List Mark) (new : Resource) → EndTurn Ends mark old sends marks new → Counts 0 withdraws old new marks

@@ -106,7 +106,7 @@ event_sent n old new acts.Forget sends marks consistent nodes forgot = All-same 
 event_sent n old new (acts.Receive message) sends marks consistent nodes received =
     receive_sent n (resource_at old (name_of message)) received.resource sends marks ((consistent.each (name_of message)).nodes_is ∙ nodes) message received.turn
 
--- ---- What becomes of a message that was sent
+-- ---- What happens to a message that was sent
 
 pub sent_is_put : (moves : List Move) (m : Message) → Contains (sent_by moves) m → Contains (put_by moves) m
 sent_is_put [] m at = at

@@ -1,4 +1,4 @@
--- What comes of a run, from what came of its steps.
+-- The outcome of a run, from the outcomes of its steps.
 use Rattle.std.proofs.Common.{◌≡◌, ℕ, List, map, Result, Ok, Err, ap, subst}
 use Rattle.std.specs.Prelude.{IfOk, OnOk, IsErrOf, IsOkUnless}
 use Rattle.std.specs.Result.{result_and}

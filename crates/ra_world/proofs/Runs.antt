@@ -1,4 +1,4 @@
--- Every run reaches its end. Each prefix of a run is one, and the steps of a run decide what comes of them.
+-- Every run reaches its end. Each prefix of a run is a run, and the steps of a run determine their outcomes.
 use Rattle.std.proofs.Common.{◌≡◌, ℕ, List, [], ◌∷◌, ◌++◌, map, refl, sym, ap, ◌∙◌, subst, append_assoc}
 use Rattle.std.specs.Prelude.{◌↔◌}
 use Rattle.std.proofs.lemmas.List.{append-nil, map-append}
@@ -73,7 +73,7 @@ module _ (laws : LawsBelow) {Lossy Copied : Type 0} (n start : ℕ) where
   pub every_run : (moves : List Move) → AllowsAll Lossy Copied moves → IsNodeNumber n → IsRun n start moves → Reached Lossy Copied n start moves
   every_run moves may count run = reached_by moves [] may (opening laws Lossy Copied n start count) run
 
-  -- ---- The steps of a run decide what comes of them
+  -- ---- The steps of a run determine their outcomes
 
   -- an event at a node
   alike_at : (ms : List Move) (step : Step) (sends sends' : List Message) (marks marks' : List Mark) (p : ℕ) (event : Event) → Reached Lossy Copied n start ms → IsNode n p → events_at p step ≡ event ∷ []

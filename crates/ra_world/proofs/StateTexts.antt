@@ -1,4 +1,4 @@
--- Lines of numbered things and of listed ones, one more at a time.
+-- Lines of numbered things and of listed ones, which grow by one line at a time.
 use Rattle.std.proofs.Common.{◌≡◌, ℕ, zero, suc, ◌+◌, ◌-◌, ◌<◌, List, [], ◌∷◌, ◌++◌, flat_map, take, length, get_or, Some, refl, sym, ap, ◌∙◌, subst, arith, append_assoc}
 use Rattle.std.specs.Prelude.{Bool, true, Option, None, is_some, not, if◌then◌else◌, slice_get}
 use Rattle.std.specs.List.{range_with_len}
@@ -134,7 +134,7 @@ no_others n i name node consistent not_waiting not_held =
 
 -- ---- The state of a world
 
--- what is kept of a run is told of it
+-- what is kept of a run tells this about it
 pub state_here : (start : ℕ) (nodes : List NodeState) (left : List Message) (moves : List Move) (names : List (List ℕ)) (clients text : List ℕ)
     → Keeps start nodes left moves
     → ((n start : ℕ) (moves : List Move) → IsNodeNumber n → IsRun n start moves → (table : LockTable) × TableRun (marks_of moves) table)

@@ -1,4 +1,4 @@
--- What comes of a step that is tried, said exactly.
+-- The exact outcome of a step that is tried.
 use Rattle.std.proofs.Common.{◌≡◌, ◌≢◌, ◌↔◌, ◌⊎◌, ℕ, List, Result, Ok, Err, sym, ap, ◌∙◌, subst, inl, inr}
 use Rattle.std.specs.Prelude.{IfOk, IsErrOf, IsOkUnless, OnErr}
 use Rattle.ra_stamp.specs.declared.message.Message.{Message}

@@ -32,13 +32,13 @@ pub at_err : {T E : Type 0} (r : Result T E) (P : E → Type 0) (Q : Result T E 
 at_err (Ok v) P Q h f = absurd h
 at_err (Err e) P Q h f = f e h
 
--- a refusal with its cause, at which nothing changed
+-- a refusal with its cause, which changed nothing
 pub with_cause : (start : ℕ) (nodes : List NodeState) (moves : List Move) (w : WorldState) (step : Step) (cause : StepError)
     → shown start nodes moves ≡ w → HasCause (length nodes) start moves step cause
     → HasCause w.count w.start w.moves step cause ⊎ IsShort w step cause
 with_cause start nodes moves w step cause is why = inl (subst (λ (v : WorldState). HasCause v.count v.start v.moves step cause) is why)
 
--- memory ran out for a step that could be made, at which nothing changed
+-- memory ran out for a step that could be made, and nothing changed
 pub short : (start : ℕ) (nodes : List NodeState) (moves : List Move) (w now : WorldState) (step : Step) (r : Result Outcome StepError)
     → shown start nodes moves ≡ w → now ≡ shown start nodes moves → GoesOn (length nodes) start moves step
     → MayNeedMemory (length nodes) start moves step ⊎ IsFull moves → IsErrAnd r (λ e. e ≡ Memory) → Tries w step r now
@@ -71,7 +71,7 @@ took_first before left new message moves moves' same kept taken first =
       | inr one ↦ first (ap repeated_by (sym kept) ∙ one.0) (subst (λ (ms : List Message). TakesOne ms message new) same one.1)
     ]
 
--- of a message that is there the first one is taken
+-- the first copy of a message under way is taken
 pub first_is_taken : (r : Option Message) (old new : List Message) (message : Message) → Contains old message
     → IfSome r (λ taken. (taken ≡ message) × TakesFirst old message new) → (IsNone r → Contains old message → ⊥)
     → TakesFirst old message new

@@ -236,7 +236,7 @@ module _ (laws : LawsBelow) {Lossy Copied : Type 0} (n start : ℕ) (ms : List M
             (All-push (RaisesTo (start + requests_in (marks_of ms))) before.bag message before.raising (All-contains (RaisesTo (start + requests_in (marks_of ms))) before.bag message before.raising there));
       }
 
-  -- a node forgets names: no message and no mark comes of it, and its numbers rise to one that it had met
+  -- a node forgets names: this makes no message and no mark, and its numbers rise to one that it had met
   forget_reached : (p : ℕ) → IsNode n p → EndsAt n start (ms ++ move (Forget p) ∷ []) p → Reached Lossy Copied n start (ms ++ move (Forget p) ∷ [])
   forget_reached p within end =
       let m = move (Forget p) in

@@ -65,7 +65,7 @@ of_gained i r es e h = filter-append (is_of i r) es (e ∷ []) ∙ ap (λ (ys : 
 pub of_kept : (i : ℕ) (r : List ℕ) (es : List Entry) (e : Entry) → is_of i r e ≡ false → of i r (es ++ e ∷ []) ≡ of i r es
 of_kept i r es e h = filter-append (is_of i r) es (e ∷ []) ∙ ap (λ (ys : List Entry). of i r es ++ ys) (filter_miss (is_of i r) e [] h) ∙ append-nil (of i r es)
 
--- an entry that is there can be taken out, and no other one of its node and name is left if it was the only one
+-- an entry of the list can be taken out, and no other one of its node and name is left if it was the only one
 pub record TakesOut (es : List Entry) (e : Entry) : Type 0 where
   pub left : List Entry
   pub loses : Loses es e left

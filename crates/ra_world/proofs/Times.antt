@@ -23,7 +23,7 @@ times is ms = length (filter is ms)
 pub times_append : (is : Message → Bool) (xs ys : List Message) → times is (xs ++ ys) ≡ times is xs + times is ys
 times_append is xs ys = ap length (filter-append is xs ys) ∙ length-append (filter is xs) (filter is ys)
 
--- what is often there is there
+-- what occurs at least once is in the list
 pub some_there : (is : Message → Bool) (m : Message) (xs : List Message) → TellsApart is m → 1 ≤ times is xs → Contains xs m
 some_there is m [] tells some = absurd (omega (arith, some))
 some_there is m (x ∷ xs) tells some = by_test (is x) refl (λ more. some_there is m xs tells more) some
@@ -32,7 +32,7 @@ some_there is m (x ∷ xs) tells some = by_test (is x) refl (λ more. some_there
     by_test true e behind some = (0, omega arith, (tells x).0 e)
     by_test false e behind some = let at = behind some in (suc at.0, omega (arith, at.1), at.2)
 
--- and what is there is there at least once
+-- and what is in the list occurs at least once
 pub there_once : (is : Message → Bool) (m : Message) (xs : List Message) → TellsApart is m → Contains xs m → 1 ≤ times is xs
 there_once is m [] tells at = absurd (omega (arith, at.1))
 there_once is m (x ∷ xs) tells (zero, low, same) =
@@ -44,7 +44,7 @@ there_once is m (x ∷ xs) tells (suc k, low, same) = by_test (is x) (there_once
     by_test true some = omega arith
     by_test false some = some
 
--- of others there is none
+-- a message that is not in the list does not occur
 pub never_there : (is : Message → Bool) (m : Message) (xs : List Message) → TellsApart is m → All (λ x. x ≢ m) xs → times is xs ≡ 0
 never_there is m [] tells others = refl
 never_there is m (x ∷ xs) tells others = by_test (is x) refl (never_there is m xs tells (All-tail (λ y. y ≢ m) x xs others))

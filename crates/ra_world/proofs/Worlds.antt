@@ -26,7 +26,7 @@ begins n start nodes left moves nodes_are none_left no_moves keeps =
 
 -- ---- The report
 
--- the figures that are counted at the nodes of the list are those of the nodes by their numbers
+-- the figures that are counted at the nodes of the list are the figures of the nodes by their numbers
 pub reported : (start : ℕ) (nodes : List NodeState) (left : List Message) (moves : List Move) (report : Report)
     → Keeps start nodes left moves
     → ((ns : List NodeState) (f : NodeState → ℕ) → sum_by (λ i. f (nodes_of ns i)) (range_with_len 1 (length ns)) ≡ sum_by f ns)
@@ -45,7 +45,7 @@ reported start nodes left moves report keeps at_all marks sent requests under_wa
   at_nodes = (nodes_of nodes, keeps.ends, waiting ∙ sym (at_all nodes waiting_count), queued ∙ sym (at_all nodes queued_count));
 }
 
--- so many requests wait at the nodes of the list, and so many clients are queued, as at the nodes by their numbers
+-- as many requests wait, and as many clients are queued, at the nodes of the list as at the nodes by their numbers
 pub waiting_here : (start : ℕ) (nodes : List NodeState) (left : List Message) (moves : List Move) (waiting : ℕ)
     → Keeps start nodes left moves
     → ((ns : List NodeState) (f : NodeState → ℕ) → sum_by (λ i. f (nodes_of ns i)) (range_with_len 1 (length ns)) ≡ sum_by f ns)

@@ -1,4 +1,4 @@
--- Who asked, and who was granted a name; how many times clients asked, and how many times they cancelled.
+-- Which clients asked, and which were granted a name; how many times clients asked, and how many times they cancelled.
 use Rattle.std.specs.Prelude.{◌≡◌, ℕ, ◌+◌, List, [], ◌∷◌, Contains, map}
 use Rattle.ra_stamp.specs.declared.entry.Entry.{Entry}
 use Rattle.ra_stamp.specs.declared.entry.Mark.{Mark}

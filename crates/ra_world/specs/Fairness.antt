@@ -1,4 +1,5 @@
--- Who overtakes a waiting request. Once its REQUEST has arrived at another node, at most one request of that node does.
+-- Which requests overtake a waiting one. Once its REQUEST has arrived at another node, at most one request of that node
+-- does.
 use Rattle.std.specs.Prelude.{◌≡◌, ◌≢◌, ℕ, ◌<◌, List, ◌++◌, Contains, map}
 use Rattle.ra_stamp.specs.declared.entry.Entry.{Entry}
 use Rattle.ra_stamp.specs.declared.entry.Mark.{Mark}
@@ -35,7 +36,7 @@ pub record Overtakes (marks : List Mark) (place : ℕ) (f e : Entry) : Type 0 wh
   pub not_yet : (earlier : ℕ) → earlier < place → IsAt marks earlier (Entered e) → ⊥
   pub not_withdrawn : (earlier : ℕ) → earlier < place → IsAt marks earlier (Withdrawn e) → ⊥
 
--- The later moves are fair to an entry that waits in the table to which the first moves lead.
+-- The later moves are fair to an entry that waits in the table after the first moves.
 pub record IsFairTo (n : ℕ) (before : List Move) (table : LockTable) (e : Entry) (later : List Move) : Type 0 where
   -- whoever overtakes e is of another node, and has an earlier stamp
   pub elsewhere : (place : ℕ) (f : Entry) → Overtakes (marks_of later) place f e

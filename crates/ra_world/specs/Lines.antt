@@ -19,6 +19,6 @@ total_lines report =
     ++ total_line (codes "queued") report.queued
     ++ withdrawn_line report.withdrawn
 
--- the text of a report: a line for each mark, in order, and then those of the totals
+-- the text of a report: a line for each mark, in order, and then the lines of the totals
 abbrev pub report_text : Report → List ℕ
 report_text report = flat_map mark_line report.marks.items ++ total_lines report

@@ -1,5 +1,5 @@
--- Which refusal of a step a refusal of its node is, which refusal of a run a refusal of its world is, and at which
--- place a list of steps is refused.
+-- What refusal of a step follows from a refusal of its node, and what refusal of a run from a refusal of its world; and
+-- the place at which a list of steps is refused.
 use Rattle.std.specs.Prelude.{◌≡◌, ℕ, ◌-◌, ◌≤◌, List, Some, map, take, slice_get}
 use Rattle.ra_node.specs.declared.error.AskError.{AskError}
 use Rattle.ra_node.specs.declared.error.AskError.TheVariants as ask

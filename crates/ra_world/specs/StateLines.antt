@@ -48,7 +48,7 @@ awaits_line i name other = at_name (codes "awaits") i name ++ field (decimal oth
 abbrev pub awaited_line : ℕ → List ℕ → State → ℕ → List ℕ
 awaited_line i name s other = if set.contains s.awaited other then awaits_line i name other else []
 
--- the lines of those of the nodes 1 to n whose REPLY is awaited, in ascending order
+-- the lines of the nodes from 1 to n whose REPLYs are awaited, in ascending order
 abbrev pub awaited_lines : ℕ → ℕ → List ℕ → State → List ℕ
 awaited_lines n i name s = flat_map (awaited_line i name s) (range_with_len 1 n)
 
@@ -63,7 +63,7 @@ defers_line i name other (Some number) =
 abbrev pub deferred_line : ℕ → List ℕ → State → ℕ → List ℕ
 deferred_line i name s other = defers_line i name other (map.get s.deferred other)
 
--- the lines of those of the nodes 1 to n whose REPLY is deferred, in ascending order
+-- the lines of the nodes from 1 to n to which a REPLY is deferred, in ascending order
 abbrev pub deferred_lines : ℕ → ℕ → List ℕ → State → List ℕ
 deferred_lines n i name s = flat_map (deferred_line i name s) (range_with_len 1 n)
 
@@ -76,8 +76,8 @@ abbrev pub queued_line : ℕ → List ℕ → Queued → List ℕ
 queued_line i name q =
     at_name (codes "queued") i name ++ field (decimal q.client) ++ field (mode_word q.mode) ++ codes "\n"
 
--- the lines of a name at node i of n: its first one, then those of the awaited REPLYs, of the deferred ones, and of the
--- queued clients, the next one first
+-- the lines of a name at node i of n: its first one, then the lines of the awaited REPLYs, of the deferred ones, and of
+-- the queued clients, the next one first
 abbrev pub resource_lines : ℕ → ℕ → List ℕ → Resource → List ℕ
 resource_lines n i name r =
     node_line i name r ++ others_lines n i name r.state ++ flat_map (queued_line i name) r.queue
@@ -96,7 +96,7 @@ node_lines n names nodes count = flat_map (λ i. lines_at n names i (nodes i)) (
 abbrev pub message_line : ℕ → Message → List ℕ
 message_line place message = codes "message" ++ field (decimal place) ++ message_fields message ++ codes "\n"
 
--- the lines of messages under way, the first of which is at this place
+-- the lines of messages under way, the first one at this place
 abbrev pub message_lines : ℕ → List Message → List ℕ
 message_lines place [] = []
 message_lines place (message ∷ messages) = message_line place message ++ message_lines (place + 1) messages
@@ -131,9 +131,9 @@ state_text n steps names nodes left clients =
     ++ clients
     ++ table_lines names nodes n
 
--- The text says which state n nodes are in after these moves from the start value. Of the nodes it tells what they know
--- of these names, and of the clients it has these lines. The requests of the nodes are the lock table of the moves'
--- marks, and the text has those on these names.
+-- The text says which state n nodes are in after these moves from the start value. It tells what the nodes know of
+-- these names, and has these lines about clients. The requests of the nodes are the lock table of the moves' marks, and
+-- the text has the requests on these names.
 pub record IsStateText (n start : ℕ) (moves : List Move) (names : List (List ℕ)) (clients text : List ℕ) : Type 0 where
   pub nodes : ℕ → NodeState
   pub ends : EndsWith n start moves nodes

@@ -23,15 +23,15 @@ pub record HasRoom (log : LogState) (marks : ℕ) : Type 0 where
   pub for_step : length log.moves < 18446744073709551615
   pub for_marks : marks ≤ log.marks_room
 
--- a step and what came of it, as a move
+-- a step with what it sent and marked, as a move
 abbrev pub move_of : Step × Outcome → Move
 move_of made = record { step = made.0; sends = made.1.sends.items; marks = made.1.marks.items }
 
--- steps and what came of them, as moves
+-- steps with what they sent and marked, as moves
 abbrev pub moves_of : List (Step × Outcome) → List Move
 moves_of made = map move_of made
 
--- What is kept is that of the moves, the marks only if they are to be kept. The messages sent are at most 2^64-1 times
+-- The log keeps what the moves have; it keeps marks only if it is meant to. The messages sent are at most 2^64-1 times
 -- the steps, and so are the requests and the withdrawals.
 pub record AreCounted (keeps : ℕ) (moves : List Move) (steps : ℕ) (marks : List Mark)
     (sent requests lost repeated withdrawn : ℕ) : Type 0 where

@@ -6,7 +6,7 @@ use Rattle.ra_bag.specs.Bag.{TakesFirst}
 use Rattle.ra_world.specs.declared.step.Step.{Step}
 use Rattle.ra_world.specs.declared.step.Step.TheVariants.{Ask, Leave, Cancel, Deliver, Lose, Repeat, Forget}
 
--- a step, and what came of it: the messages that it sent and its marks
+-- a step, with the messages that it sent and its marks
 pub record Move : Type 0 where
   pub step : Step
   pub sends : List Message

@@ -22,8 +22,8 @@ use Rattle.ra_world.specs.Traffic.{Move, LeavesUnderWay, IsUnderWay, sent_by, lo
 use Rattle.ra_world.specs.Run.{IsRun, GoesOn, EndsWith, happened_at, marks_of, waiting_at_all, queued_at_all}
 use Rattle.ra_world.specs.Quiet.{requests_in, withdrawn_in}
 
--- how many nodes there are, the highest number with which each resource begins, and the steps so far with what came of
--- them
+-- how many nodes there are, the highest number with which each resource begins, and the steps so far with what they
+-- sent and marked
 pub record WorldState : Type 0 where
   pub count : ℕ
   pub start : ℕ
@@ -123,7 +123,7 @@ pub record AnswersStep (old : WorldState) (step : Step) (result : Result Outcome
   pub err : OnErr result (new ≡ old)
   pub memory : IsErrOf result Memory → MayNeedMemory old.count old.start old.moves step ⊎ IsFull old.moves
 
--- at the end of a run this is the node with this number, to which its own events lead, or no node has this number
+-- at the end of a run this is the node with this number, as its own events make it, or no node has this number
 abbrev pub IsNodeAfter : ℕ → ℕ → List Move → ℕ → Option NodeState → Type 0
 IsNodeAfter n start moves i None = n < i
 IsNodeAfter n start moves i (Some node) =

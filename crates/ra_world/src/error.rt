@@ -41,7 +41,7 @@ impl fmt::Display for NodeRefusal {
     }
 }
 
-/// Why a step was not made, in the order in which the causes are looked for.
+/// Why a step was not made. The causes are looked for in this order.
 #[derive(Clone, Copy, Debug, PartialEq, Eq, Error)]
 pub enum StepError {
     /// An ask, a leave, a cancel or a forget names a node above the number of nodes.

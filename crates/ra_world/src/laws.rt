@@ -111,7 +111,7 @@ pub fn tables_of_runs_are_those_of_their_nodes()
 {}
 
 /// At each moment, and whatever was lost or withdrawn, a run has sent at most two messages for each request and other
-/// node, and one more for each copy.
+/// node, and a further one for each copy.
 pub fn runs_send_at_most_two_messages_for_each_request_and_other_node()
     ensures with_copies { (n start : ℕ) (moves : List Move) → IsNodeNumber n → IsRun n start moves
         → length (sent_by moves) ≤ 2 * (n - 1) * requests_in (marks_of moves) + length (repeated_by moves) }

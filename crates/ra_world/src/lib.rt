@@ -21,7 +21,7 @@ pub use laws::{
     tables_of_runs_are_those_of_their_nodes, two_nodes_never_hold_in_conflict,
     waiting_requests_are_blocked_in_quiet_runs, withdrawn_requests_never_return,
 };
-// A caller of `report_text` finds here what else it prints a run by.
+// A caller of `report_text` also finds here the calls that print the rest of a run.
 pub use ra_text::{WriteFault, mark_line, write_out};
 pub use step::{Step, Steps};
 pub use text::lines::report_text;

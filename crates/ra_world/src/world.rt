@@ -28,7 +28,7 @@ pub type World = WorldOf<1>;
 pub type MarklessWorld = WorldOf<0>;
 
 /// A cluster of nodes in one thread, with the messages under way between them. Contracts see the number of nodes, the
-/// start value, and the steps so far with what came of them, which are a run.
+/// start value, and the steps so far with what they sent and marked, which are a run.
 ///
 /// If `KEEPS_MARKS` is 1 the world keeps the marks of its steps. (It is a number because the invariant of a type cannot
 /// be stated over a bool.) It keeps the messages under way, but only counts the steps and all messages sent.
@@ -71,7 +71,7 @@ impl<const KEEPS_MARKS: u8> WorldOf<KEEPS_MARKS> {
     ghost use Rattle.ra_world.specs.StateLines.{IsStateText};
     ghost use Rattle.ra_world.specs.Keeping.{Tries};
 
-    /// Makes a world of this many nodes, in which nothing has happened yet. The highest number of each resource begins
+    /// Makes a world of this many nodes. Nothing has happened yet in it. The highest number of each resource begins
     /// at `start`, 0 to 2^64-1. The cost is linear in the number of nodes.
     ///
     /// # Errors
@@ -182,8 +182,8 @@ impl<const KEEPS_MARKS: u8> WorldOf<KEEPS_MARKS> {
         }
     }
 
-    /// Returns whether `step` would make this step, unless memory runs out. It does not allocate. The cost is that of
-    /// looking at the node's resource, or linear in the number of messages under way.
+    /// Returns whether `step` would make this step, unless memory runs out. It does not allocate. The cost is that of a
+    /// look at the node's resource, or linear in the number of messages under way.
     pub fn accepts(&self, step: &Step) -> bool
         ensures value { IsTrue result ↔ GoesOn self.now.count self.now.start self.now.moves step.now }
         ensures run { IsRun self.now.count self.now.start self.now.moves }
@@ -285,8 +285,8 @@ impl<const KEEPS_MARKS: u8> WorldOf<KEEPS_MARKS> {
     /// Returns the lines of the state after the steps so far: how many they were, what each node knows of each of these
     /// names, the messages under way, these lines about clients, and the requests on these names that wait and hold. So
     /// these are the whole lock table only if `names` has each name on which a request waits or holds. The cost is
-    /// linear in the text and in the number of nodes times that of names, and for a name on which a node has a request
-    /// linear in the number of nodes. Finding the messages takes what `message_at` takes for each.
+    /// linear in the text and in the product of the numbers of nodes and names, and for a name on which a node has a
+    /// request linear in the number of nodes. Finding the messages takes what `message_at` takes for each.
     ///
     /// # Errors
     ///
@@ -469,7 +469,7 @@ impl WorldOf<1> {
     ghost use Rattle.ra_world.specs.World.{Reports};
     ghost use Rattle.ra_world.specs.MainTheorem.{MainTheorem};
 
-    /// Reports what came of the steps so far. The cost is linear in the number of marks and of nodes.
+    /// Reports on the steps so far. The cost is linear in the number of marks and of nodes.
     ///
     /// # Errors
     ///
@@ -488,7 +488,7 @@ impl WorldOf<1> {
         Ok(figures.with_marks(marks))
     }
 
-    /// Ends the world, and reports what came of its steps, as `report` does. The marks are moved and not copied, so it
+    /// Ends the world, and reports on its steps, as `report` does. The marks are moved and not copied, so it
     /// takes no memory. The cost is linear in the number of nodes, beside what it takes to give the world's memory
     /// back.
     pub fn into_report(self) -> Report

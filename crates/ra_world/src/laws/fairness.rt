@@ -1,4 +1,4 @@
-//! Who overtakes a waiting request. Each function does nothing, and its contract is the law.
+//! Which requests overtake a waiting one. Each function does nothing, and its contract is the law.
 ghost use Rattle.std.specs.Prelude.{ℕ, ◌++◌, List, Contains};
 ghost use Rattle.ra_stamp.specs.declared.entry.Entry.{Entry};
 ghost use Rattle.ra_stamp.specs.NodeId.{IsNodeNumber};

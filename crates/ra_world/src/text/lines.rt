@@ -7,8 +7,8 @@ use ra_stamp::Memory;
 use ra_text::Draft;
 use std::alloc::Global;
 
-/// Returns the lines of a report: one for each mark, in order, and then those of the totals: six, and how many requests
-/// were withdrawn if any was. The cost is linear in the text.
+/// Returns the lines of a report: one for each mark, in order, and then six totals, or seven with the number of
+/// withdrawn requests if any was withdrawn. The cost is linear in the text.
 ///
 /// # Errors
 ///

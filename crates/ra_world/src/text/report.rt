@@ -3,7 +3,7 @@ ghost use Rattle.ra_world.specs.Keeping.{report_with};
 
 use ra_stamp::Marks;
 
-/// What came of a run.
+/// The report of a run.
 #[derive(Debug, Drop)]
 pub struct Report {
     /// The requests, grants, releases and withdrawals, in order.

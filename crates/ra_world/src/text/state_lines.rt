@@ -89,7 +89,7 @@ fn push_queue(text: &mut Draft, me: NodeId, node: &Node, name: &Name)
     }
 }
 
-/// Adds the lines of names at all nodes: of each name its first line, those of other nodes, and those of queued
+/// Adds the lines of names at all nodes: for each name its first line, the lines of other nodes, and those of queued
 /// clients.
 fn push_nodes(text: &mut Draft, nodes: &[Node], names: &[Name])
     requires { IsNodeNumber (length nodes.now) }

@@ -37,7 +37,7 @@ pub fn ask_at<const KEEPS_MARKS: u8>(
 {
     // The request may enter at once.
     let Ok(()) = kept.make_room(sends, 2) else {
-        // That the node refuses comes before that memory ran out.
+        // A refusal of the node comes before `Memory`.
         node.may_ask(client, name)?;
         return Err(StepError::Memory);
     };
@@ -69,7 +69,7 @@ pub fn leave_at<const KEEPS_MARKS: u8>(
 {
     // The marks are Left, Requested and Entered.
     let Ok(()) = kept.make_room(sends, 3) else {
-        // That the node refuses comes before that memory ran out.
+        // A refusal of the node comes before `Memory`.
         if !node.is_held_by(client, name) {
             return Err(StepError::Node(NodeRefusal::NotHeld));
         }
@@ -101,9 +101,9 @@ pub fn cancel_at<const KEEPS_MARKS: u8>(
     requires sends { 2 * node.old.nodes ≤ sends }
     ensures { TriesAt step.now (event.Cancel client name.now) node.old kept.old result node.new kept.new }
 {
-    // The marks are Withdrawn and Requested; the room is that of a leave.
+    // The marks are Withdrawn and Requested; the room is the same as for a leave.
     let Ok(()) = kept.make_room(sends, 3) else {
-        // That the node refuses comes before that memory ran out.
+        // A refusal of the node comes before `Memory`.
         if !node.is_kept_waiting(client, name) {
             return Err(StepError::Node(NodeRefusal::NotWaiting));
         }

@@ -1,4 +1,4 @@
-//! What a world keeps of its steps: the messages that they left under way, and the log of what came of them.
+//! What a world keeps of its steps: the messages that they left under way, and the log of what they sent and marked.
 ghost use Rattle.std.specs.Prelude.{◌≡◌, ◌+◌, ◌≤◌, ◌<◌, ◌⊎◌, ◌∷◌, ◌++◌, [], List, Contains, length, OnOk, OnErr};
 ghost use Rattle.ra_stamp.specs.declared.message.Message.{Message};
 ghost use Rattle.ra_stamp.specs.declared.entry.Mark.{Mark};
@@ -15,7 +15,7 @@ use std::alloc::Global;
 pub struct KeptSteps<const KEEPS_MARKS: u8> {
     /// The messages under way.
     pub under_way: Bag,
-    /// What came of the steps.
+    /// The outcome of the steps.
     pub log: StepLog<KEEPS_MARKS>,
 }
 
@@ -45,8 +45,8 @@ impl<const KEEPS_MARKS: u8> KeptSteps<KEEPS_MARKS> {
         self.log.reserve(marks)
     }
 
-    /// Makes room for what a message brings at its node: one message for a REQUEST, and one mark for a REPLY. Only if
-    /// there is no such room is the node asked whether the message brings anything, which costs one more look at its
+    /// Makes room for what a message brings at its node: one message for a REQUEST, and one mark for a REPLY. The node
+    /// is asked whether the message brings anything only if there is no such room, since that costs another look at its
     /// resource.
     ///
     /// # Errors
@@ -87,7 +87,7 @@ impl<const KEEPS_MARKS: u8> KeptSteps<KEEPS_MARKS> {
         self.log.push(step, outcome);
     }
 
-    /// Logs a step that touches no node, for which there is room, and returns what came of it: nothing.
+    /// Logs a step that touches no node, for which there is room, and returns its empty outcome.
     pub fn keep_nothing(&mut self, alloc: Global, step: &Step) -> Outcome
         requires { HasRoom self.old.log 0 }
         ensures nothing { (result.sends.items ≡ []) × (result.marks.items ≡ []) }
@@ -103,8 +103,8 @@ impl<const KEEPS_MARKS: u8> KeptSteps<KEEPS_MARKS> {
         outcome
     }
 
-    /// Takes the first message that is equal to this one from those under way. If nothing was repeated there is no
-    /// other, and it is where it was found.
+    /// Takes the first message that is equal to this one from those under way. If nothing was repeated it is the only
+    /// one, and it is where it was found.
     #[inline(always)]
     pub fn take(&mut self, found: Found, message: &Message)
         requires { Contains self.old.under_way.items message.now }

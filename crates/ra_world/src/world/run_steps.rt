@@ -9,7 +9,7 @@ ghost use Rattle.ra_world.specs.Refused.{IsRefusedAt, StopsBefore};
 use crate::{Report, RunError, Step, StepError, Steps, World};
 use std::alloc::Global;
 
-/// Makes a world of this many nodes, all of whose numbers begin at `start`, and steps it through a list of steps. The
+/// Makes a world of this many nodes, with all numbers at `start`, and steps it through a list of steps. The
 /// cost is that of the steps, each as `World::step` says, and linear in the number of nodes.
 ///
 /// # Errors
@@ -37,12 +37,12 @@ pub fn run(alloc: Global, nodes: u16, start: u64, steps: &Steps) -> Result<Repor
 {
     let mut world = World::new(alloc, nodes, start)?;
     let stepped = step_through(alloc, &mut world, steps.as_slice());
-    // Also a world in which a step was refused ends in its report, which owns less that is to be given back.
+    // A world in which a step was refused ends in its report, too, which owns less that has to be given back.
     let report = world.into_report();
     stepped.and(Ok(report))
 }
 
-/// Steps a world, in which nothing has happened yet, through a list of steps.
+/// Steps a world through a list of steps. Nothing has happened yet in it.
 ///
 /// # Errors
 ///

@@ -1,4 +1,4 @@
-//! What came of the steps of a world so far.
+//! What the steps of a world so far sent and marked.
 ghost use Rattle.std.specs.Prelude.{◌≡◌, ◌+◌, ◌≤◌, ◌⊎◌, [], ◌∷◌, ◌++◌, length, OnOk, OnErr};
 ghost use Rattle.ra_stamp.specs.declared.entry.Mark.{Mark};
 ghost use Rattle.ra_world.specs.Traffic.{lost_in, repeated_in};
@@ -10,7 +10,7 @@ use ra_stamp::{GhostList, Mark, Marks, Memory, Sequence};
 use std::alloc::Global;
 use std::marker::Model;
 
-/// What came of the steps so far. The steps themselves are counted and not kept, and their marks are kept if
+/// What the steps so far sent and marked. The steps themselves are counted and not kept, and their marks are kept if
 /// `KEEPS_MARKS` is 1. Contracts see the moves, and the room for more marks.
 #[derive(Drop)]
 pub struct StepLog<const KEEPS_MARKS: u8> {
@@ -28,7 +28,7 @@ pub struct StepLog<const KEEPS_MARKS: u8> {
     repeated: u64,
     /// How many of the marks of the steps are Withdrawn.
     withdrawn: u128,
-    /// Each step with what came of it, for proofs alone.
+    /// Each step with what it sent and marked, for proofs alone.
     made: GhostList<(Step, Outcome)>,
 }
 
@@ -143,7 +143,7 @@ impl<const KEEPS_MARKS: u8> StepLog<KEEPS_MARKS> {
         self.marks.reserve(marks)
     }
 
-    /// Adds a step with what came of it, for which there is room.
+    /// Adds a step with what it sent and marked, for which there is room.
     pub fn push(&mut self, step: &Step, outcome: &Outcome)
         requires { HasRoom self.old (length outcome.now.marks.items) }
         ensures { self.new.moves ≡ self.old.moves

@@ -9,7 +9,7 @@ use Rattle.ra_world.proofs.StateTexts.{next_item}
 use Rattle.ra_world.proofs.text.lines.report_text.Goals as goal
 use Rattle.ra_world.proofs.text.lines.report_text.Goals.{then-report-ne0, else-report-ne0}
 
--- a line that is there unless a number is 0
+-- a line that is printed unless a number is 0
 line_there : (k : ℕ) (line : List ℕ) → k ≢ 0 → cond (nat_eq k 0) [] line ≡ line
 line_there k line some = ap (λ b. cond b [] line) (false_from_ne_true (nat_eq k 0) (λ t. some (eqb-true k 0 t)))
 

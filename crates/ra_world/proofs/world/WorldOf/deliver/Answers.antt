@@ -39,7 +39,7 @@ unreachable-requires g c =
 pub index_mut-receiver-requires : goal.index_mut-receiver-requires
 index_mut-receiver-requires g c = subst (λ (n : ℕ). c.in-Some-place_of.place < n) c.deref.ensures.len c.in-Some-place_of.ensures.some.1
 
--- the message is under way, and the node at this place is the one for which it is
+-- the message is under way, and the node at this place is its receiver
 pub receive_at-requires : goal.receive_at-requires
 receive_at-requires g c =
     let w = c.self.inside in
