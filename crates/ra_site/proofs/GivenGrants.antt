@@ -1,4 +1,4 @@
--- A grant that a book gave is in the book: the mark that its last event made is among those of its history, and names its node.
+-- A grant that a book gave is in the book: the mark that its last event made is in its history, and names its node.
 use Rattle.std.proofs.Common.{◌≡◌, ℕ, ◌≤◌, List, [], ◌∷◌, ◌++◌, map, refl, sym, ap, ◌∙◌, subst, append_assoc}
 use Rattle.std.specs.Prelude.{All, Contains, Option, Some, None, IfSome}
 use Rattle.std.proofs.lemmas.List.{map-append}
@@ -122,7 +122,7 @@ module _ (laws : GivingLaws) (old : BookState) (kind : BookKind) (frames : List 
       })
       adds.leads
 
-  -- the event, by which the history comes to its node
+  -- the event that brings the history to its node
   made : NodeEvent adds.before (node_event kind) last.last.sends last.last.marks parts.2.0
   made =
       let as_event : node_event last.last.event.kind ≡ node_event kind = ap (λ (e : BookEvent). node_event e.kind) last.last_is in
@@ -180,7 +180,7 @@ module _ (old : BookState) (kind : BookKind) (frames : List Frame) (marks : List
   pub given : HasHistory new → (grant : Grant) → Contains marks (Entered grant.entry) → WasGiven grant
   given history grant is = ∣ record { before = old; book = new; gives = gives grant is; history = history } ∣₁
 
-  -- so the grant of which somebody is told is given
+  -- so the grant that somebody is told about is given
   pub told_is_given : {T : Type 0} (told : Option (T × Grant)) (before after : BookState) → before ≡ old → after ≡ new
       → IfSome told (λ t. Contains marks (Entered t.1.entry)) → IfSome told (λ t. Gives before after t.1)
   told_is_given None before after is_old is_new is = tt

@@ -21,7 +21,7 @@ is_lost s = s.lost
 lost_in_both : (xs ys : List Sent) → lost_frames (xs ++ ys) ≡ lost_frames xs ++ lost_frames ys
 lost_in_both xs ys = ap (map frame_in) (filter-append is_lost xs ys) ∙ map-append frame_in (filter is_lost xs) (filter is_lost ys)
 
--- one more frame, lost or not
+-- another frame, lost or not
 pub one_more_frame : (now new initial : List Frame) (sent : List Sent) (i : ℕ) (s : Sent) → i < length sent → get_or sent i s ≡ s
     → now ≡ initial ++ lost_frames (take i sent) → new ≡ now ++ lost_frames (s ∷ []) → new ≡ initial ++ lost_frames (take (i + 1) sent)
 one_more_frame now new initial sent i s within at before here =

@@ -53,7 +53,7 @@ found_at n node place audited sites (Some s) are is within at =
     ∙ get_or-map (site_at audited) (range_with_len 1 n) place 0 s.now low'
     ∙ ap (site_at audited) (get_or-range_with_len 1 n place 0 low ∙ e)
 
--- one more number comes after those that there are
+-- another number comes after the present ones
 numbers_from : (a n : ℕ) → range_with_len a (suc n) ≡ range_with_len a n ++ (a + n) ∷ []
 numbers_from a zero = let e : a ≡ a + 0 = omega arith in ap (λ (x : ℕ). x ∷ []) e
 numbers_from a (suc n) =
@@ -68,7 +68,7 @@ numbers_more n sites new are is =
     ∙ sym (numbers_from 1 n)
     ∙ (let e : suc n ≡ n + 1 = omega arith in ap (λ (k : ℕ). range_with_len 1 k) e)
 
--- and so does one more site
+-- and so does another site
 pub sites_more : (n : ℕ) (audited : Bool) (sites new : List SiteState) → sites ≡ sites_to n audited → new ≡ sites ++ site_at audited (n + 1) ∷ [] → new ≡ sites_to (n + 1) audited
 sites_more n audited sites new are is =
     is
@@ -168,11 +168,11 @@ closes_all n start books left some empty c =
       histories = c.histories;
     }
 
--- so many of the sites, from the first one on, have the numbers of the first nodes
+-- this many of the sites, from the first one on, have the numbers of the first nodes
 abbrev pub AreFirst : List SiteState → ℕ → Type 0
 AreFirst sites i = (k : ℕ) (d : SiteState) → k < i → (get_or sites k d).node ≡ k + 1
 
--- sites of which each has the number of its place are those of nodes 1 to n, in order
+-- if each site has the number of its place, they are the sites of nodes 1 to n, in order
 pub numbers_of_first : (sites : List SiteState) (i : ℕ) → i ≡ length sites → AreFirst sites i → nodes_at sites ≡ range_with_len 1 (length sites)
 numbers_of_first sites i all first =
     let count = length-map sites (λ (site : SiteState). site.node) in
@@ -184,7 +184,7 @@ numbers_of_first sites i all first =
     ∙ (let e : k + 1 ≡ 1 + k = omega arith in e)
     ∙ sym (get_or-range_with_len 1 (length sites) k d low))
 
--- the other way round, the number of each is that of its place
+-- the other way round, the number of each is its place
 pub number_of : (sites : List SiteState) → nodes_at sites ≡ range_with_len 1 (length sites) → (k : ℕ) (d : SiteState) → k < length sites
     → (get_or sites k d).node ≡ k + 1
 number_of sites are k d within =

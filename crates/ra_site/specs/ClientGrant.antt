@@ -15,7 +15,7 @@ pub record IsGrantOf (node client : ℕ) (name : List ℕ) (mode : Mode) (grant 
   pub name_is : grant.entry.name ≡ name
   pub mode_is : grant.entry.mode ≡ mode
 
--- the book has one more event, which made the Entered mark of the grant
+-- the book has another event, which made the Entered mark of the grant
 pub record Gives (old new : BookState) (grant : Grant) : Type 0 where
   pub kind : BookKind
   pub frames : List Frame

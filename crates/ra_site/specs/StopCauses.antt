@@ -7,7 +7,7 @@ use Rattle.ra_site.specs.declared.site.SiteError.TheVariants.{Refused, Stopped, 
 use Rattle.ra_book.specs.declared.book.stop.Stop.{Stop}
 use Rattle.ra_book.specs.declared.book.stop.Stop.TheVariants as stop
 
--- The cause for which all nodes are stopped after a book's refusal, or None if the book has a fault already. A refusal
+-- The cause to stop all nodes after a book's refusal, or None if the book has a fault already. A refusal
 -- that no thread of a cluster should meet is Refused.
 abbrev pub stop_after_refusal : BookError → Option Stop
 stop_after_refusal book.Failed = None
@@ -21,8 +21,7 @@ stop_after_refusal book.Stranger = Some stop.Refused
 stop_after_refusal book.ClockFull = Some stop.Clock
 stop_after_refusal book.Memory = Some stop.Memory
 
--- the cause for which all nodes are stopped after this refusal, or None if the site's node was stopped before, or the
--- client gave up
+-- the cause to stop all nodes after this refusal, or None if the site's node was stopped before, or the client gave up
 abbrev pub stop_of : SiteError → Option Stop
 stop_of (Refused refusal) = stop_after_refusal refusal
 stop_of (Stopped cause) = None

@@ -66,7 +66,7 @@ pub struct Cluster<G> {
     sites: Vec<Site>,
     post: Post,
     inboxes: Vec<Inbox>,
-    /// Where the books are put when the cluster is closed. It is under a lock, since threads share a cluster, and books
+    /// The books are put here when the cluster is closed. It is under a lock, since threads share a cluster, and books
     /// can't be shared.
     room: Mutex<BookRoom>,
     gate: G,
@@ -110,7 +110,7 @@ impl<G: Gate + Drop> Cluster<G> {
     ghost use Rattle.ra_site.specs.Cluster.{MakesCluster};
     ghost use Rattle.ra_site.specs.Sites.{AreSitesWith, site_at};
 
-    /// Makes a cluster of this many nodes, in which nothing has happened yet. The highest number of each resource
+    /// Makes a cluster of this many nodes. Nothing has happened in it yet. The highest number of each resource
     /// begins at `start`, 0 to 2^64-1. The cost is linear in the number of nodes.
     ///
     /// # Errors
@@ -178,7 +178,7 @@ impl<G: Gate + Drop> Cluster<G> {
         self.sites.len() as u16
     }
 
-    /// Returns the start, beyond which the numbers of requests begin. It does not allocate.
+    /// Returns the start, which the numbers of requests begin after. It does not allocate.
     pub fn start(&self) -> u64
         ensures { result ≡ self.now.start }
     {
@@ -218,8 +218,8 @@ impl<G: Gate + Drop> Cluster<G> {
         Some((site, self.sites.as_slice()))
     }
 
-    /// Runs a thread in [`Cluster::pump`] for each node and, in this thread, the closure, in which clients may lock and
-    /// unlock names, also on threads of their own. When the closure has returned, closes the post, joins the threads of
+    /// Runs a thread in [`Cluster::pump`] for each node, and the closure in this thread. In the closure, clients may
+    /// lock and unlock names, also on threads of their own. When it has returned, closes the post, joins the threads of
     /// the nodes, and returns what the closure returned. After that no frame is carried any more. If a thread cannot be
     /// started, the cluster is stopped with `Spawn` and the closure is called all the same; then each call of a client
     /// is refused.
@@ -522,9 +522,9 @@ impl<G: Gate + Drop> Cluster<G> {
     }
 
     /// Consumes a cluster whose audit is ended, and returns as many books as it has nodes, each with its history. They
-    /// are those of the nodes in their order, as they are: with the events that no round has taken. No contract can
-    /// tell which book was under a lock, so `Auditor::check_books` of `ra_audit` looks at that, too, when it tells
-    /// whether all that they say is in the run. It does not allocate. The cost is linear in the number of nodes.
+    /// are the nodes' books in order, as they are, with the events that no round has taken. No contract can tell which
+    /// book was under a lock, so `Auditor::check_books` of `ra_audit` looks at that, too, when it tells whether all
+    /// that they say is in the run. It does not allocate. The cost is linear in the number of nodes.
     pub fn close_audited(self) -> Vec<Book>
         ensures count { vec_len result ≡ self.nodes }
         ensures histories { All HasHistory result.items }

@@ -41,7 +41,7 @@ pub fn ended_requests_are_gone()
         → (recorder : Recorder node (Leave client name)) → LeadsTo recorder.book after
         → IsBusy (resource_at after name) client → ⊥ }
 {
-    // For the proof: the events of a node determine the node after them, on which no client is twice.
+    // For the proof: the events of a node determine the node after them, which has no client twice.
     histories_are_determined();
     histories_keep_a_node_consistent();
     events_keep_a_node_consistent();

@@ -46,7 +46,7 @@ const MOST_AT_ONCE: u8 = 64;
 /// What takes the bytes of the frames for one node.
 type FrameSender = Sender<Vec<u8>>;
 
-/// Where the frames for one node come, each as its bytes.
+/// The frames for one node arrive here, each as its bytes.
 #[derive(Drop)]
 pub struct Inbox {
     frames: Receiver<Vec<u8>>,
@@ -167,7 +167,7 @@ fn send_to<R: Wait>(rt: &R, senders: &[FrameSender], node: NodeId, bytes: Vec<u8
     }
 }
 
-/// Makes one more inbox and its sender.
+/// Makes another inbox and its sender.
 fn open_inbox(
     alloc: Global,
     senders: &mut Vec<FrameSender>,

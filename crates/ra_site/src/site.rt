@@ -30,9 +30,9 @@ use std::marker::Model;
 use std::sync::{Mutex, Wait};
 use thiserror::Error;
 
-/// Why a call of a site did not do what it is for. The first two print the word of what they wrap, and some words are
-/// in both: after `Refused(Memory)` nothing has happened and the call can be made again, after `Stopped(Memory)` the
-/// cluster is at its end. So they are told apart by the variant, and not by what they print.
+/// Why a call of a site did not do its work. The first two print the word of what they wrap, and some words are in
+/// both: after `Refused(Memory)` nothing has happened and the call can be made again, after `Stopped(Memory)` the
+/// cluster is at its end. So tell them apart by the variant, and not by what they print.
 #[derive(Clone, Copy, Debug, PartialEq, Eq, Error)]
 pub enum SiteError {
     /// The book of the node refused it, and is as before. If the cause is `Failed`, the node was stopped before; after
@@ -110,8 +110,8 @@ impl Site {
     ghost use Rattle.ra_site.specs.Handing.{IsHandedOver, OnlyTurnOrMemory};
     ghost use Rattle.ra_site.specs.Sites.{AreSitesWith, IsWholeBookOf, site_at};
 
-    /// Makes the site of node `me` of `nodes`, with a book in which nothing has happened yet. The highest number of
-    /// each resource begins at `start`, 0 to 2^64-1, which is to be the same at all nodes. It does not allocate.
+    /// Makes the site of node `me` of `nodes`, with a book before its first event. The highest number of each resource
+    /// begins at `start`, 0 to 2^64-1, which has to be the same at all nodes. It does not allocate.
     ///
     /// # Errors
     ///
@@ -127,7 +127,7 @@ impl Site {
         Ok(Site::of(alloc, book, false))
     }
 
-    /// Makes the site of a book in which nothing has happened yet, audited or not.
+    /// Makes the site of a book before its first event, audited or not.
     pub(crate) fn of(alloc: Global, book: Book, audited: bool) -> Site
         requires { book.sent ≡ [] }
         ensures { result ≡ site_at audited book.me }
@@ -294,8 +294,8 @@ impl Site {
         }
     }
 
-    /// Returns the cause for which the node is stopped, or `None` if it goes on. Like each of these readers, it tells
-    /// what is so when it has the lock. It waits for the lock, and does not allocate.
+    /// Returns the cause why the node is stopped, or `None` if it goes on. Like each of these readers, it tells what is
+    /// true when it has the lock. It waits for the lock, and does not allocate.
     pub fn fault<R: Wait>(&self, rt: &R) -> Option<Stop> {
         self.desk.lock(rt).book.fault()
     }
@@ -356,8 +356,8 @@ impl Site {
                     lost: Vec::new(alloc),
                 });
             };
-            // The book is always that of this node, but no contract tells what is under a lock. The lock is given back
-            // at the end of this statement.
+            // The book always belongs to this node, but no contract tells what is under a lock. The lock is released at
+            // the end of this statement.
             let made = self.desk.lock(rt).hand_over(alloc, self.node, after);
             made
         };
@@ -435,8 +435,9 @@ impl Site {
         ticket.ok_or(SiteError::Refused(BookError::Memory))
     }
 
-    /// Hands the book frames, and sends those of their events, with no round of an audit in between. Puts the result of
-    /// each into the list. Returns whether all were sent, and if one was not received, why; those before it were.
+    /// Hands the book frames, and sends the frames of their events, with no round of an audit in between. Puts the
+    /// result of each into the list. Returns whether all were sent, and if one was not received, why; those before it
+    /// were.
     fn carry<R: Wait, G: Gate>(
         &self,
         rt: &R,

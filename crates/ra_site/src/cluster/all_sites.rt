@@ -16,7 +16,7 @@ pub fn is_site_of(site: &Site, sites: &[Site]) -> bool
     usize::from(site.node().get()) <= sites.len() && are_in_order(sites)
 }
 
-/// Returns whether the sites are those of nodes 1 to n, in order.
+/// Returns whether the sites belong to nodes 1 to n, in order.
 fn are_in_order(sites: &[Site]) -> bool
     ensures { IsTrue result ↔ (numbers_of sites.now ≡ range_with_len 1 (length sites.now)) }
 {

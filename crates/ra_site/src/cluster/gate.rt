@@ -4,8 +4,8 @@ use ra_stamp::{Entry, NodeId};
 pub trait Gate: Sync {
     /// Is called under the lock of this node, just before each call of its book that may be an event. The book may yet
     /// refuse that call. The answer `false` stops the cluster, and the call is not made. It must call no site of the
-    /// cluster, since that would wait for a lock that its own thread has. Nor must it wait for anything else, since
-    /// meanwhile each other call of this node's site waits for it.
+    /// cluster, since that would wait for a lock that its own thread has. It must not wait for anything else either,
+    /// since meanwhile each other call of this node's site waits for it.
     fn step(&self, node: NodeId) -> bool;
 
     /// Is called after each grant, with no lock held, by the client threads of `run_threads` and `run_cluster` of the

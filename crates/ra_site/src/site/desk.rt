@@ -89,7 +89,7 @@ pub struct Handed {
 }
 
 impl Desk {
-    /// Makes the desk of a book that has sent nothing, at which nobody waits.
+    /// Makes the desk of a book that has sent nothing. Nobody waits at it.
     pub fn new(alloc: Global, book: Book) -> Desk
         requires { book.sent ≡ [] }
     {
@@ -107,7 +107,7 @@ impl Desk {
         if !gate.step(node) {
             return Some(Stop::Gate);
         }
-        // The book is always that of this node, but no contract tells what is under a lock.
+        // The book always belongs to this node, but no contract tells what is under a lock.
         if self.book.me() == node {
             None
         } else {
@@ -160,8 +160,7 @@ impl Desk {
         Ok(self.stepped(posted, None))
     }
 
-    /// Makes room for one more client that waits, and returns that client, or `None` if there is no memory or no
-    /// ticket.
+    /// Makes room for another client that waits, and returns that client, or `None` if there is no memory or no ticket.
     fn waiter(&mut self, request: &Request, ticket: Option<&SharedTicket>) -> Option<Waiter>
         ensures room { IfSome result (λ _. vec_len self.new.waiters < vec_capacity self.new.waiters) }
         ensures book { self.new.book ≡ self.old.book }
@@ -381,7 +380,7 @@ impl Desk {
     }
 
     /// Hands over the events of this node after one with the clock `after`, or from its first one on if `after` is 0,
-    /// and those of the frames sent since the round before that are flagged lost. Unless there may be one, that takes a
+    /// and the frames sent since the round before that are flagged lost. Unless there may be a lost frame, that takes a
     /// time that does not grow with the history. All frames leave the book, too; they are returned, so that they need
     /// not be dropped under the lock.
     ///
@@ -389,7 +388,7 @@ impl Desk {
     ///
     /// The first that holds, and the book is as before:
     ///
-    /// 1. `OutOfTurn`: the book is that of another node, or `after` is not the clock of the last event that was handed
+    /// 1. `OutOfTurn`: the book belongs to another node, or `after` is not the clock of the last event that was handed
     ///    over, or 0 before the first.
     /// 2. `Memory`: there is no room for the lost frames, or for what the leaves of the node's clients will need.
     pub fn hand_over(

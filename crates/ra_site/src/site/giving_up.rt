@@ -1,4 +1,4 @@
-//! How a client gives up a name for which it waits: by a call, or when its time is over.
+//! How a client gives up a name that it waits for: with a call, or when its time is over.
 ghost use Rattle.std.specs.Prelude.{IfOk, IfSome, IsErrOf};
 ghost use Rattle.ra_site.specs.ClientGrant.{IsGrantOf, WasGiven};
 ghost use Rattle.ra_site.specs.PassedOn.{IsNotCancelled};
@@ -21,8 +21,8 @@ impl Site {
     ///
     /// # Errors
     ///
-    /// Those of `lock`. If no clock is left for the event in which the client gives up, each site is stopped with
-    /// `Clock`, and the answer is `Stopped`.
+    /// Those of `lock`. If no clock is left for the client to give up, each site is stopped with `Clock`, and the
+    /// answer is `Stopped`.
     pub fn lock_within<R: Wait + Clock, G: Gate>(
         &self,
         rt: &R,

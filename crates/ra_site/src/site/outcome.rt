@@ -16,7 +16,7 @@ pub enum NotGranted {
 /// The outcome of a request: its grant, or why it was not granted.
 #[derive(Drop)]
 pub struct Outcome {
-    /// The grant, or why there is none.
+    /// The grant, or why none was given.
     pub answer: Result<Grant, NotGranted>,
     ghost given: { ForOk answer WasGiven },
 }

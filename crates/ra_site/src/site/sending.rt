@@ -7,7 +7,7 @@ use std::sync::{RwLock, RwLockReadGuard, RwLockWriteGuard, Wait};
 /// What the threads that send for an audited site share, and a round of the audit has alone. A thread has its share
 /// from before it calls the book until all frames of the event were tried. So each frame that a round takes from the
 /// book was tried, and is flagged if it was lost. At a site that is not audited nobody waits, and nothing can be had
-/// alone. So a site that hands over anything is one whose threads keep off.
+/// alone. So if a site hands over anything, its threads keep off.
 ///
 /// A round that waits comes before threads that have no share yet. So a thread must not take a second one.
 ///

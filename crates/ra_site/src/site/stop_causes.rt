@@ -3,9 +3,8 @@ ghost use Rattle.ra_site.specs.StopCauses as spec;
 
 use crate::{BookError, SiteError, Stop};
 
-/// Returns the cause for which all nodes are stopped after a call of a site was refused, or `None` if that site is
-/// stopped already, so that no other site need be. [`Site::pump`](crate::Site::pump) stops them for this cause. It does
-/// not allocate.
+/// Returns the cause to stop all nodes after a call of a site was refused, or `None` if that site is stopped already,
+/// so that no other site need be. [`Site::pump`](crate::Site::pump) stops them for this cause. It does not allocate.
 pub fn stop_of(refused: SiteError) -> Option<Stop>
     ensures { result ≡ spec.stop_of refused }
 {

@@ -1,4 +1,4 @@
-//! Where a thread waits for the outcome of its request.
+//! A thread waits here for the outcome of its request.
 ghost use Rattle.std.specs.Prelude.{IfOk, IfSome};
 ghost use Rattle.std.specs.Result.{ForOk};
 ghost use Rattle.ra_site.specs.ClientGrant.{IsGrantOf, WasGiven};
@@ -17,10 +17,10 @@ use std::time::Clock;
 /// A ticket that two threads share: the one that waits, and the one that tells it the outcome of its request.
 pub type SharedTicket = Arc<Ticket, Global>;
 
-/// Where the one thread that made a request waits. The thread that tells it the outcome of the request wakes it alone.
+/// The one thread that made a request waits here. The thread that tells it the outcome of the request wakes only it.
 #[derive(Drop)]
 pub struct Ticket {
-    /// The grant, or why there is none, once it is told.
+    /// The grant, or why none was given, once it is told.
     outcome: Mutex<Option<Outcome>>,
     waits: Parker,
     /// Whether it was taken from the desk of its site, to be told its outcome. It is read and written under the lock of
@@ -49,7 +49,7 @@ impl Ticket {
         self.taken.load(Ordering::SeqCst)
     }
 
-    /// Tells the thread that waits the outcome of its request: its grant, or why there is none. Wakes it.
+    /// Tells the thread that waits the outcome of its request: its grant, or why none was given. Wakes it.
     pub fn tell<R: Wait>(&self, rt: &R, answer: Result<Grant, NotGranted>)
         requires { ForOk answer WasGiven }
     {
@@ -109,7 +109,7 @@ impl Ticket {
             IfOk answer (IsGrantOf node request.now.client request.now.name request.now.mode)) }
         ensures given { IfSome result (λ answer. IfOk answer WasGiven) }
     {
-        // The lock is given back at once, so that nobody waits for it while this thread sleeps.
+        // The lock is released at once, so that nobody waits for it while this thread sleeps.
         let outcome = self.outcome.lock(rt).take();
         let Some(Outcome { answer }) = outcome else {
             return None;

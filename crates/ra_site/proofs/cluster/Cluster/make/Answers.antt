@@ -1,4 +1,4 @@
--- The sites are those of the nodes that the post has.
+-- The sites belong to the nodes that the post has.
 use Rattle.std.proofs.Common.{◌≡◌, ℕ, Result, Ok, Err, vec_len, ap, ◌∙◌, sym}
 use Rattle.ra_stamp.specs.NodeId.{IsNodeNumber}
 use Rattle.ra_site.specs.declared.post.NewPostError.{NewPostError}

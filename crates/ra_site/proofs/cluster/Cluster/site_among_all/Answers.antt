@@ -1,4 +1,4 @@
--- The sites are those of all nodes, and the one that was found is among them.
+-- The sites belong to all nodes, and the one that was found is among them.
 use Rattle.std.proofs.Common.{◌≤◌, vec_len, ap, inl, inr, ◌∙◌, arith}
 use Rattle.std.proofs.lemmas.Bool.{cases_lt, true≢false}
 use Rattle.ra_site.specs.Cluster.{ClusterState}

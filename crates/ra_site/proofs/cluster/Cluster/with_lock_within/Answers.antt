@@ -10,7 +10,7 @@ use Rattle.ra_site.proofs.cluster.Cluster.with_lock_within.Goals as goal
 done : {X : Type 0} (x : X) → ◌≡◌ {A = Result X CallError} (Ok x) (Err NoNode) → ⊥
 done x is = cc
 
--- a site that refuses is there
+-- a site that refuses exists
 refused : {X : Type 0} (why : SiteError) → ◌≡◌ {A = Result X CallError} (Err (Site why)) (Err NoNode) → ⊥
 refused why is = cc
 

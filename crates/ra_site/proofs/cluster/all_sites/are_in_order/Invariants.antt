@@ -1,4 +1,4 @@
--- The sites so far are those of the first nodes.
+-- The sites so far belong to the first nodes.
 use Rattle.ra_site.proofs.SiteNumbers.{AreFirst}
 use Rattle.ra_site.proofs.cluster.all_sites.are_in_order.Given as goal
 
