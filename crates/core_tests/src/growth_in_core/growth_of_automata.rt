@@ -45,7 +45,7 @@ struct Row {
     highest: u64,
     /// Which of the nodes 1 to 4 it awaits. There is no node 4.
     awaits: [bool; 4],
-    /// With which numbers it defers these nodes, or 0.
+    /// The numbers with which it defers these nodes, or 0.
     defers: [u64; 4],
 }
 
@@ -195,7 +195,7 @@ fn awaited_by(automaton: &Automaton) -> [bool; 4] {
     ]
 }
 
-/// Returns with which numbers an automaton defers the nodes 1 to 4, or 0.
+/// Returns the numbers with which an automaton defers the nodes 1 to 4, or 0.
 fn deferred_by(automaton: &Automaton) -> [u64; 4] {
     [
         automaton.deferred(id(1)).unwrap_or(0),
@@ -226,7 +226,7 @@ fn phase_after(row: &Row) -> Phase {
     }
 }
 
-/// Makes the call of a row, and makes it again if memory ran out, before which all has to be as it was. Asserts what
+/// Makes the call of a row. If memory ran out, all has to be as it was, and the call is made again. Asserts what
 /// the automaton shows in the end.
 fn try_row(
     rt: &(impl Abort + AllocGlobal),

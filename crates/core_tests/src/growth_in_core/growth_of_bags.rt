@@ -70,7 +70,7 @@ fn assert_in_turn(rt: &impl Abort, label: &str, bag: &Bag, count: u64, numbers: 
     assert_count(rt, label, bag, count);
 }
 
-/// Returns the number of the request at a place of a bag into which the numbers from 1 to 100 were put twice, after the
+/// Returns the number of the request at a place of a bag. The numbers from 1 to 100 were put into it twice, and the
 /// first 70 was taken. All numbers after it are one place further to the front, and copies of the second 70 follow.
 fn number_at(place: u64) -> u64 {
     if place < 69 {
@@ -82,7 +82,7 @@ fn number_at(place: u64) -> u64 {
     70
 }
 
-/// Asserts that a bag from which the first 70 was taken has this many messages, and the right one at each place.
+/// Asserts that a bag without its first 70 has this many messages, and the right one at each place.
 fn assert_copies(rt: &impl Abort, label: &str, bag: &Bag, count: u64) {
     for place in 0..count {
         assert_is_at(rt, label, bag, place, number_at(place));
@@ -158,8 +158,8 @@ fn new_bag(rt: &impl AllocGlobal) -> Result<Bag, Memory> {
     Bag::new(rt.alloc())
 }
 
-/// Puts 100 messages into a bag twice, makes room for 1,000 more, and looks for one. The bag learns where each message
-/// is only as a hint: the one is found even if memory for that is refused. If there is no bag, memory ran out.
+/// Puts 100 messages into a bag twice, makes room for 1,000 more, and looks for one. The bag learns the place of each
+/// message only as a hint: the one is found even if memory for that is refused. If no bag is made, memory ran out.
 fn try_bag(rt: &(impl Abort + AllocGlobal)) -> Result<Tried, Memory> {
     let (mut bag, mut list) = (new_bag(rt)?, Messages::new(rt.alloc()));
     let pushed = try_pushes(rt, &mut list, 100);
@@ -206,7 +206,7 @@ fn try_three_times(rt: &(impl Abort + AllocGlobal), bag: &mut Bag) -> Tried {
     both(pushed, both(put, try_put(rt, bag, &list)))
 }
 
-/// Puts 268 messages into a bag three times, has it learn in which slot each one is, and takes one of each of the first
+/// Puts 268 messages into a bag three times, has it learn the slot of each one, and takes one of each of the first
 /// 238. If the bag kept a bit for each slot before, it does so after. If there is no bag, memory ran out.
 fn try_equal(rt: &(impl Abort + AllocGlobal)) -> Result<Tried, Memory> {
     let (label, mut bag) = ("a bag with equal messages", new_bag(rt)?);
@@ -247,9 +247,9 @@ fn finds_and_takes_some(rt: &impl Abort, label: &str, bag: &mut Bag) {
     assert_same(rt, row(label), &bag.len(), &566);
 }
 
-/// Puts 268 messages three times into each of two bags. The second one learns in which slot each one is. Both may then
+/// Puts 268 messages three times into each of two bags. The second bag learns the slot of each message. Both may then
 /// find and take some, which needs no memory. A map of 268 entries is so full that repeatedly removing an entry and
-/// putting it back would make it grow. If there is no bag, memory ran out.
+/// putting it back would make it grow. If no bag is made, memory ran out.
 fn try_two(rt: &(impl Abort + AllocGlobal), takes_some: bool) -> Result<Tried, Memory> {
     let (mut plain, mut indexed) = (new_bag(rt)?, new_bag(rt)?);
     let put = both(
@@ -276,9 +276,9 @@ fn growth_of_a_bag_of_equal_messages_takes_no_more(rt: HostRuntime) {
     assert_grown!(&rt, again(try_two(&rt, true), try_two(&rt, true)));
 }
 
-/// Puts 3,000 messages into a bag, has it learn in which slot each one is, and takes more than half of them from after
+/// Puts 3,000 messages into a bag, has it learn the slot of each one, and takes more than half of them from after
 /// the first, so that it is closed up while more than 1,024 are left. Closing up needs no memory for the bits: if the
-/// bag kept one for each slot before, it does so after. If there is no bag, memory ran out.
+/// bag kept one for each slot before, it does so after. If no bag is made, memory ran out.
 fn try_closed_up(rt: &(impl Abort + AllocGlobal)) -> Result<Tried, Memory> {
     let (label, mut bag) = ("a bag that is closed up", new_bag(rt)?);
     let mut list = Messages::new(rt.alloc());
@@ -312,14 +312,14 @@ pub fn try_many_pushes(rt: &(impl Abort + AllocGlobal)) -> Tried {
     tried
 }
 
-/// Makes room for one more message in a bag and puts it there.
+/// Makes room for another message in a bag and puts it there.
 fn put_one_more(bag: &mut Bag, one: &Messages) -> Result<(), Memory> {
     bag.reserve(1)?;
     bag.put_all(one)
 }
 
-/// Makes room for one more message in a bag and puts it there. Tries again if memory ran out, when the bag has to have
-/// as many messages as before.
+/// Makes room for another message in a bag and puts it there. If memory ran out, the bag has to have as many messages
+/// as before, and it is tried again.
 fn try_one_more(rt: &impl Abort, bag: &mut Bag, one: &Messages) -> Tried {
     let (at, before) = (row("a bag makes room for one more"), bag.len());
     if put_one_more(bag, one).is_ok() {

@@ -218,7 +218,7 @@ fn shown(node: &Node) -> ((u64, u128), (u64, Option<Entry>)) {
     )
 }
 
-/// Makes a call, and makes it again if memory ran out, after which all has to be as it was.
+/// Makes a call. If memory ran out, all has to be as it was, and the call is made again.
 fn try_call(rt: &(impl Abort + AllocGlobal), at: At<'_>, node: &mut Node, call: Call) -> Tried {
     let before = shown(node);
     if make(rt, at, node, call).is_ok() {
@@ -305,8 +305,8 @@ fn growth_of_a_leave_with_room(rt: HostRuntime) {
 /// 2 is queued.
 const BEFORE_GIVING_UP: usize = 5;
 
-/// Makes room for a leave and the calls before a client that waits gives up. That and a forget need no memory then: they
-/// may not be refused, whichever growth is. If the room or a call before it is refused, memory ran out.
+/// Makes room for a leave and the calls before a client that waits gives up. That and a forget need no memory then:
+/// they may not be refused, whichever growth is refused. If the room or a call before it is refused, memory ran out.
 fn try_giving_up(rt: &(impl Abort + AllocGlobal), node: &mut Node) -> Result<Tried, Memory> {
     let label = "a client gives up with room";
     let Ok(mut ended) = Outcome::for_leave(rt.alloc(), 2) else {
@@ -399,7 +399,7 @@ fn does(
     }
 }
 
-/// Makes a request or grants it, and does so again if memory ran out, after which all has to be as it was.
+/// Makes a request or grants it. If memory ran out, all has to be as it was, and it is done again.
 fn try_entry(
     rt: &impl Abort,
     at: At<'_>,

@@ -330,7 +330,7 @@ fn goes(rt: &(impl Abort + AllocGlobal), bag: &mut Bag, scene: &Scene) {
     }
 }
 
-/// Tests the steps of each scene, with a bag in which nothing is under way.
+/// Tests the steps of each scene, with a bag that has nothing under way.
 pub fn follow(rt: &(impl Abort + AllocGlobal), scenes: &[Scene]) {
     for scene in scenes {
         match Bag::new(rt.alloc()) {

@@ -1,4 +1,4 @@
-//! A bag of few messages: in which order they are, and which of equal ones goes.
+//! A bag of few messages: their order, and which of equal ones goes.
 use crate::value_tests::bags::{ASKED, REPLIED, Scene, Step, Wire, follow};
 use Step::{Contains, Finds, Has, Lacks, MakesRoom, Puts, Takes, TakesNear};
 use Wire::Asks;
@@ -47,8 +47,8 @@ const IN_ORDER: &[Scene] = &[
             Has(&[ASKED]),
         ],
     },
-    // Of two equal messages, the one that was found is taken. If another message is at that place, before the one taken
-    // last, and at the end, the first of the two is taken. Then the one at the end is taken.
+    // If two messages are equal, the one that was found is taken. If another message is at that place, before the one
+    // taken last, and at the end, the first of the two is taken. Then the one at the end is taken.
     Scene {
         shows: "of equal messages the one that was found is taken",
         steps: &[
@@ -82,8 +82,8 @@ const IN_ORDER: &[Scene] = &[
         shows: "an absent message is not taken",
         steps: &[Lacks(ASKED), Puts(&[ASKED]), Lacks(REPLIED), Has(&[ASKED])],
     },
-    // The request, its reply, the request again and a later one are put, and room is made for one more. The bag closes
-    // up each of the two times that the request is taken, and has it at the end when it is put once more.
+    // The request, its reply, the request again and a later one are put, and room is made for another. The bag closes
+    // up each of the two times that the request is taken, and has it at the end when it is put again.
     Scene {
         shows: "a bag closes up where a message is taken",
         steps: &[

@@ -1,4 +1,4 @@
-//! A bag of many messages, which knows in which slot each is.
+//! A bag of many messages, which knows the slot of each.
 use crate::value_tests::bags::{Scene, Step, Wire, follow};
 use Step::{
     Contains, Finds, HasCount, HasNumbers, Lacks, MakesRoom, PutsNumbers, Takes, TakesEveryOther,
@@ -7,7 +7,7 @@ use Step::{
 use Wire::Asks;
 use ra_bag::Found;
 
-/// A bag of many messages, which knows in which slot each is.
+/// A bag of many messages, which knows the slot of each.
 const MANY: &[Scene] = &[
     // The request with the number 50 is in the bag twice, 150 places apart. The later one is found and taken at its
     // place although slots before it are empty, and the earlier one stays.
@@ -138,8 +138,8 @@ const MANY: &[Scene] = &[
             HasCount(195),
         ],
     },
-    // Of 200 requests, those with even numbers are taken, then 100 more are put after the others, and then those with
-    // odd numbers are taken, except the first. The others always stay in their order.
+    // There are 200 requests. Those with even numbers are taken, then 100 more are put after the others, and then those
+    // with odd numbers are taken, except the first. The others always stay in their order.
     Scene {
         shows: "many messages stay in order while others are taken",
         steps: &[
@@ -193,8 +193,8 @@ const MANY: &[Scene] = &[
             HasCount(101),
         ],
     },
-    // Of 200 requests, the seventh is put twice, and taken twice with 70 others in between. The second of the two stays
-    // until it is taken, too.
+    // There are 200 requests. The seventh is put twice, and taken twice with 70 others in between. The second of the
+    // two stays until it is taken, too.
     Scene {
         shows: "each of two equal messages among many is taken",
         steps: &[
@@ -224,7 +224,7 @@ const MANY: &[Scene] = &[
             HasCount(130),
         ],
     },
-    // If a message is put after one was looked for among many, the bag knows from then on in which slot each is.
+    // If a message is put after one was looked for among many, the bag knows the slot of each from then on.
     Scene {
         shows: "where many messages stand is learned with the next one",
         steps: &[
@@ -275,7 +275,7 @@ const MANY: &[Scene] = &[
             HasCount(199),
         ],
     },
-    // Of two equal messages among many, the earlier one is found while others are taken and put. Once it is taken, the
+    // If two of many messages are equal, the earlier one is found while others are taken and put. Once it is taken, the
     // later one is found.
     Scene {
         shows: "among many the first slot of each message is known",
@@ -297,7 +297,7 @@ const MANY: &[Scene] = &[
                 near: 9,
                 found: Some(Found::In(49)),
             },
-            // It was looked for among many, so the bag now learns in which slot each is.
+            // It was looked for among many, so the bag now learns the slot of each.
             MakesRoom {
                 more: 0,
                 answer: Ok(()),
@@ -347,8 +347,8 @@ const MANY: &[Scene] = &[
             },
         ],
     },
-    // Of two equal messages among many, the last of all is found. From then on the one before that which was taken last
-    // is found first, too: from the newest on, no message is looked for.
+    // If two of many messages are equal, the one at the end of all is found. From then on the one before the message
+    // taken last is found first, too: no message is looked for if they are taken from the newest on.
     Scene {
         shows: "among many the last message is found, and then the one before it",
         steps: &[

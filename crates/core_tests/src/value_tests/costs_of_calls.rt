@@ -1,4 +1,4 @@
-//! What calls cost. A test has a minute. A body that goes through all messages at each call, or learns where they are
+//! What calls cost. A test has a minute. A body that goes through all messages at each call, or learns their places
 //! anew at each call, takes longer.
 use crate::value_tests::bags::{Scene, Step, Wire, follow};
 use Step::{Finds, HasCount, HasNumbers, MovesEach, PutsNumbers, TakesEveryOther};

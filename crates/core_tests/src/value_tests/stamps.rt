@@ -142,7 +142,7 @@ fn names_are_ordered_by_their_bytes(rt: HostRuntime) {
     }
 }
 
-/// A mode in which an entry holds, one that another wants, and whether both can be held at once.
+/// A mode that an entry holds, one that another wants, and whether both can be held at once.
 struct Modes {
     held: Mode,
     wanted: Mode,
