@@ -70,7 +70,7 @@ fn judge_fault(rt: &impl Abort, at: At<'_>, fault: ClusterError) -> Memory {
     Memory
 }
 
-/// Looks at clients, of which each has its grant kept. If node 1 was stopped, that is since memory ran out.
+/// Looks at clients, each with its grant kept. If node 1 was stopped, memory ran out.
 fn judge_kept(
     rt: &impl Abort,
     fault: Option<Stop>,

@@ -80,7 +80,7 @@ fn try_site<R: Wait + Abort>(rt: &R, alloc: Global, all: &Cluster, site: &Site) 
     tried
 }
 
-/// Makes a cluster of one site, at which a client locks `r` and unlocks it. If it cannot be made, memory ran out.
+/// Makes a cluster of one site, and has a client lock `r` and unlock it there. If it cannot be made, memory ran out.
 fn try_sites<R: Wait + Abort>(rt: &R, alloc: Global) -> Result<Tried, Memory> {
     let clusters = make_cluster(alloc, 1);
     match clusters.first() {
@@ -111,7 +111,7 @@ fn events_unless_memory<R: AllocGlobal + Wait + Abort>(
     }
 }
 
-/// Returns how many frames are left in an inbox, that of node 3, which a new site of the node takes. The post has to be
+/// Returns how many frames are left in the inbox of node 3, which a new site of the node takes. The post has to be
 /// closed before. Returns `None` if memory ran out.
 fn frames_left<R: AllocGlobal + Wait + Abort>(rt: &R, inbox: &Inbox) -> Option<u64> {
     let fresh = make_cluster(rt.alloc(), 3);
@@ -199,7 +199,7 @@ fn try_losing<R: AllocGlobal + Wait + Abort>(rt: &R) -> Result<Tried, Memory> {
     }
 }
 
-/// A frame for which there is no memory is flagged as lost, and the others of its event are sent.
+/// If memory for a frame is lacking, it is flagged as lost, and the others of its event are sent.
 #[test]
 fn growth_of_lost_frames(rt: HostRuntime) {
     assert_grown!(&rt, again(try_losing(&rt), try_losing(&rt)));

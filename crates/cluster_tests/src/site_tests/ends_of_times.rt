@@ -24,7 +24,7 @@ enum Meanwhile {
     Cancels,
     /// Node 1 is stopped for this reason.
     Stops(Stop),
-    /// The frame comes after which node 1 has no clock left.
+    /// The frame comes that leaves node 1 no clock.
     LastClock,
 }
 
@@ -170,7 +170,7 @@ fn act<R: AllocGlobal + Wait + Abort>(rt: &R, all: &Cluster, meanwhile: Meanwhil
     }
 }
 
-/// Has a frame come to node 1 after which it has the greatest clock.
+/// Has a frame come to node 1 that gives it the greatest clock.
 fn take_the_last_clock<R: AllocGlobal + Wait + Abort>(
     rt: &R,
     at: At<'_>,

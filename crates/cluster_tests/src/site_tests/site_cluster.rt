@@ -22,7 +22,7 @@ pub type Answer = Option<Result<Grant, SiteError>>;
 pub struct Keeps {
     /// The steps of all nodes.
     pub counting: Counting,
-    /// The node at which it keeps a thread, or 0.
+    /// The node whose thread it keeps, or 0.
     pub node: u16,
     /// Whether that thread is to go: 1 then.
     pub goes: AtomicU64,
@@ -47,7 +47,7 @@ impl Gate for Keeps {
 #[derive(Drop)]
 pub struct Cluster {
     nodes: u16,
-    /// The number after which those of each name begin.
+    /// The start: the numbers of each name come after it.
     pub start: u64,
     /// The site of each node.
     pub sites: Vec<Site>,
@@ -256,9 +256,9 @@ fn events_at(books: &[Book], number: u16) -> Option<(u64, Option<BookEvent>)> {
     }
 }
 
-/// Makes a new cluster, whose site of this node takes all frames that are left in the inbox at a place, that of this
-/// node, and sends through the new post. Returns how many events its book then has, and the first of them. The post has
-/// to be closed before.
+/// Makes a new cluster. Its site of this node takes all frames that are left in the node's inbox, which is at this
+/// place, and sends through the new post. Returns how many events its book then has, and the first of them. The post
+/// has to be closed before.
 pub fn taken_from<R: AllocGlobal + Wait + Abort>(
     rt: &R,
     all: &Cluster,

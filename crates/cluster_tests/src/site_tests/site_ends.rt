@@ -27,8 +27,8 @@ pub enum Shown {
     Fault(usize, Stop),
     /// The frame that node 1 sent at this place is lost, or is not.
     Sent(u64, bool),
-    /// Client 1 of node 1 asked for `r`, exclusively, at clock 1. Node 1 sent its REQUEST and nothing else, and that
-    /// was lost, and the books settle into its loss.
+    /// Client 1 of node 1 asked for `r`, exclusively, at clock 1. Node 1 sent only its REQUEST, which was lost, and the
+    /// books settle into its loss.
     OneLoss,
     /// Client 1 of node 1 holds `r`.
     Held,
@@ -38,7 +38,7 @@ pub enum Shown {
     Refused(SiteError),
     /// The books settle into a run in which one client is queued and no request waits.
     OneQueued,
-    /// The clients that lock and unlock often got more than this many grants, with which the books settle into a run
+    /// The clients that lock and unlock often got more than this many grants. With these the books settle into a run
     /// that tells of a loss.
     LostAfter(usize),
 }
@@ -115,11 +115,11 @@ fn assert_one_loss(rt: &impl Abort, alloc: Global, at: At<'_>, one: &Book, books
     }
 }
 
-/// What a run tells into which books settle: whether messages were lost, and how many clients are queued and how many
+/// What the run tells that books settle into: whether messages were lost, and how many clients are queued and how many
 /// requests wait.
 type Told = (bool, u128, u128);
 
-/// Returns what the run tells into which the books settle with grants, or `None` if they do not.
+/// Returns what the run tells that the books settle into with these grants, or `None` if they do not settle.
 fn told(alloc: Global, books: &[Book], grants: &[Grant]) -> Option<Told> {
     match settled(alloc, books, grants) {
         Some(settled) => {

@@ -86,12 +86,12 @@ pub enum Step {
     Stays(u64),
 }
 
-/// What becomes of the inboxes before the first step.
+/// What happens to the inboxes before the first step.
 #[derive(Clone, Copy)]
 pub enum Gone {
     /// All are kept.
     Nothing,
-    /// That at this place is dropped, and those after it move one place to the front.
+    /// The one at this place is dropped, and those after it move one place to the front.
     Inbox(usize),
     /// All are dropped.
     Inboxes,
@@ -103,7 +103,7 @@ pub struct Row {
     pub words: &'static str,
     /// How many nodes it has.
     pub nodes: u16,
-    /// The number after which those of `r` begin.
+    /// The start: the numbers of `r` come after it.
     pub start: u64,
     /// How many steps its gate lets pass.
     pub most: u64,
@@ -185,7 +185,7 @@ fn refusal<R: Wait>(rt: &R, alloc: Global, all: &Cluster, site: &Site) -> Option
 /// The refusal of a site that is stopped.
 const FAILED: SiteError = SiteError::Refused(BookError::Failed);
 
-/// Returns that refusal once the site is stopped, for which it is looked many times, or otherwise the last one.
+/// Looks many times, and returns that refusal once the site is stopped, or otherwise the last one.
 fn last_refusal<R: Wait>(rt: &R, alloc: Global, all: &Cluster, site: &Site) -> Option<SiteError> {
     for _ in 0..1_000_000u32 {
         if refusal(rt, alloc, all, site) == Some(FAILED) {
@@ -200,7 +200,7 @@ fn last_refusal<R: Wait>(rt: &R, alloc: Global, all: &Cluster, site: &Site) -> O
 /// client sleeps then.
 fn let_sleep<R: Wait>(rt: &R, alloc: Global, all: &Cluster, site: &Site) {
     for _ in 0..300u32 {
-        // Client 1 holds the name, so it is refused, which wakes nobody.
+        // Client 1 holds the name, so it is refused, and this wakes nobody.
         let _busy = all.lock_at(rt, alloc, site, 1, Mode::Shared, &OpenGate);
         thread::yield_now();
     }
@@ -213,7 +213,7 @@ fn stop_all<R: Wait>(rt: &R, all: &Cluster, stop: Stop) {
     }
 }
 
-/// Asserts that this many frames are left in the inbox at a place, that of the node with this number.
+/// Asserts that this many frames are left in the inbox at a place, which belongs to the node with this number.
 fn assert_left<R: AllocGlobal + Wait + Abort>(
     rt: &R,
     at: At<'_>,
@@ -237,8 +237,7 @@ fn assert_one_left<R: AllocGlobal + Wait + Abort>(rt: &R, at: At<'_>, all: &Clus
     assert_same(rt, at, &taken_from(rt, all, 1, 2), &Some((1, first)));
 }
 
-/// Returns how many threads have ended, once there are others than this many, or after a while in which others may go
-/// on.
+/// Returns how many threads have ended, once that differs from this number, or after a while in which others may go on.
 fn ended_for_a_while(all: &Cluster, ended: u64) -> u64 {
     for _ in 0..3_000u32 {
         let came = all.ended.load(Ordering::SeqCst);

@@ -12,10 +12,10 @@ use ra_frame::FrameError;
 use std::alloc::Global;
 use test_support::{At, assert_prints, assert_words};
 
-/// The last clock, after which there is none for an event.
+/// The last clock: no event can come after it.
 const LAST_CLOCK: u64 = 1 << 62;
 
-/// Returns how many inboxes the post of this many nodes has, or why there is none.
+/// Returns how many inboxes the post of this many nodes has, or why there is no post.
 fn inboxes_of(alloc: Global, nodes: u16) -> Result<usize, NewPostError> {
     match Post::new(alloc, nodes) {
         Ok((_post, inboxes)) => Ok(inboxes.len()),
@@ -23,7 +23,7 @@ fn inboxes_of(alloc: Global, nodes: u16) -> Result<usize, NewPostError> {
     }
 }
 
-/// How many nodes there are, and how many inboxes their post has, or why there is none.
+/// How many nodes there are, and how many inboxes their post has, or why there is no post.
 const COUNTS: &[(u16, Result<usize, NewPostError>)] = &[
     (0, Err(NewPostError::BadCount)),
     (65, Err(NewPostError::BadCount)),
@@ -39,7 +39,7 @@ fn a_post_has_1_to_64_nodes(rt: HostRuntime) {
     }
 }
 
-/// The books of two nodes in which nothing has happened.
+/// The books of two nodes before their first events.
 const BOTH_RUN: &[Shown] = &[Shown::Books(&[
     Ended {
         fault: None,

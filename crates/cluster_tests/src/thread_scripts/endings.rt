@@ -47,7 +47,7 @@ fn marks_counted(marks: &[Mark]) -> Counts {
     counts
 }
 
-/// Asserts that the steps and marks, counted one by one, are those of this many requests, each granted and left, and
+/// Asserts that the steps and marks, counted one by one, are right for this many requests, each granted and left, and
 /// this many messages, each delivered.
 fn assert_counted(rt: &impl Abort, at: At<'_>, settled: &Settled, requests: u128, sent: u128) {
     let steps = steps_counted(settled.steps.as_slice());
@@ -139,8 +139,8 @@ fn assert_order(rt: &impl Abort, at: At<'_>, marks: &[Mark], first: u16, second:
 pub enum End {
     /// With this many requests, which are all granted and left, and this many messages.
     Done(u128, u128),
-    /// With four requests and eight messages, and the client at the first of these nodes enters `r` before that at the
-    /// second.
+    /// With four requests and eight messages, and the client at the first of these nodes enters `r` before the one at
+    /// the second.
     InOrder(u16, u16),
     /// It does not come to its end, for this reason.
     Fails(ClusterError),

@@ -29,7 +29,7 @@ struct Meets {
     at: Meeting,
     /// At node 1 and at node 2.
     steps: (AtomicU64, AtomicU64),
-    /// Of client 1 and of client 2.
+    /// For client 1 and for client 2.
     insides: (AtomicU64, AtomicU64),
     /// How often somebody waited in vain.
     missed: AtomicU64,
@@ -230,7 +230,7 @@ struct Stopped {
     nodes: u16,
     /// How many steps it lets pass.
     steps: u64,
-    /// Whether it lets everybody be inside, or nobody.
+    /// Whether it lets all clients be inside, or none.
     lets_in: bool,
     end: End,
 }

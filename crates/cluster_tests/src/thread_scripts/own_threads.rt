@@ -58,11 +58,11 @@ fn assert_granted(rt: &impl Abort, words: &str, came: &[Grant], all: &[Granted])
     assert_same(rt, at, &came.len(), &all.len());
 }
 
-/// A client in a cluster of two nodes, of which a node may be stopped before; the grants that are kept, and how the
-/// books end.
+/// A client in a cluster of two nodes, one of which may be stopped before; the grants that are kept, and how the books
+/// end.
 pub struct Row {
     words: &'static str,
-    /// The number after which those of `r` begin.
+    /// The start: the numbers of `r` come after it.
     start: u64,
     stopped: Option<(u16, Stop)>,
     client: Client,

@@ -10,7 +10,7 @@ use test_support::r;
 ///
 /// # Errors
 ///
-/// Why there is none.
+/// Why no cluster is made.
 pub fn new_cluster<G: Gate + Drop>(
     alloc: Global,
     nodes: u16,

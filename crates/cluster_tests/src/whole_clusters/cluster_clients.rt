@@ -36,7 +36,7 @@ pub struct Seen {
     pub events: u64,
 }
 
-/// A node at which nothing has happened.
+/// A node before its first event.
 pub const QUIET: Seen = Seen {
     fault: None,
     holder: None,
@@ -52,9 +52,9 @@ pub enum Task {
     Carries(u16),
     /// At this node, this client locks `r`, and gets a grant with this number.
     Gets(u16, u32, u64),
-    /// At this node, this client locks `r`, and is told the cause of the stop.
+    /// At this node, this client locks `r`, and learns the cause of the stop.
     IsTold(u16, u32),
-    /// At this node, this client locks `s`, and is told the cause of the stop.
+    /// At this node, this client locks `s`, and learns the cause of the stop.
     IsToldOfS(u16, u32),
     /// At this node, this client locks `r`, looks whether it holds it, and unlocks it. Its grant is told.
     Uses(u16, u32),
@@ -82,7 +82,7 @@ pub enum Act {
     HasNoNode(u16),
     /// A watchdog sees this of a node once its book has that many events.
     Sees(u16, Seen),
-    /// The last grant that was told is that of this client of this node, with this number.
+    /// The last grant that was told belongs to this client of this node, with this number.
     HasGranted(u16, u32, u64),
     /// This many threads come to their end.
     HaveEnded(u64),
@@ -100,11 +100,11 @@ pub struct Row {
     pub words: &'static str,
     /// How many nodes it has.
     pub nodes: u16,
-    /// The number after which those of each name begin.
+    /// The start: the numbers of each name come after it.
     pub start: u64,
     /// What it does and shows, in order.
     pub acts: &'static [Act],
-    /// How many requests and messages the run has into which its books settle with the last grant that was told, if it
+    /// How many requests and messages the run has that its books settle into with the last grant that was told, if that
     /// is looked at.
     pub settles: Option<(u128, u128)>,
 }
@@ -127,7 +127,7 @@ fn s() -> Name {
     Name::new(b"s").unwrap()
 }
 
-/// Waits until the book of a node has this many events, for which it looks many times.
+/// Looks many times, until the book of a node has this many events.
 fn await_events<R: Wait>(rt: &R, site: &Site, events: u64) {
     for _ in 0..1_000_000u32 {
         if site.events(rt) >= events {
@@ -307,7 +307,7 @@ impl Acts for Stage<'_> {
     }
 }
 
-/// Has a cluster do and show all of a row. If it is stopped, that is for this cause. Returns the last grant that was
+/// Has a cluster do and show all of a row. It may be stopped only for this cause. Returns the last grant that was
 /// told.
 fn act_through<R: AllocGlobal + Threads + Wait + Abort + Sync>(
     rt: &R,
@@ -326,8 +326,8 @@ fn act_through<R: AllocGlobal + Threads + Wait + Abort + Sync>(
     stage.grant.into_inner()
 }
 
-/// Returns how many requests and messages the run has into which the books settle with a grant, or `None` if they do
-/// not.
+/// Returns how many requests and messages the run has that the books settle into with a grant, or `None` if they do not
+/// settle.
 fn totals_of(alloc: Global, books: &[Book], grant: Grant) -> Option<(u128, u128)> {
     match settled(alloc, books, &[grant]) {
         Some(settled) => Some((settled.report.requests, settled.report.sent)),
@@ -335,7 +335,7 @@ fn totals_of(alloc: Global, books: &[Book], grant: Grant) -> Option<(u128, u128)
     }
 }
 
-/// Has a cluster do and show all of a row. If it is stopped, that is for this cause. Ends the test if anything else
+/// Has a cluster do and show all of a row. It may be stopped only for this cause. Ends the test if anything else
 /// happens.
 pub fn perform<R: AllocGlobal + Threads + Wait + Abort + Sync>(
     rt: &R,

@@ -102,7 +102,7 @@ pub fn pass<R: AllocGlobal + Threads + Wait + Abort + Sync>(rt: &R, row: &Passed
     let events = events_of(&books_at_the_end(rt.alloc(), clusters));
     assert_same(rt, at, &events, &Some(due));
     let (asked, refused) = (gate.steps.load(Ordering::SeqCst), steps.saturating_add(1));
-    // All of four steps pass. Of fewer, the next one is refused, and others may come after it.
+    // All of four steps pass. If fewer may pass, the next one is refused, and others may come after it.
     if steps == 4 {
         assert_same(rt, at, &asked, &steps);
     } else {

@@ -142,7 +142,7 @@ pub fn settled(alloc: Global, books: &[Book], grants: &[Grant]) -> Option<Settle
     }
 }
 
-/// Counts the steps and lets the first `most` of them pass, and lets either nobody or everybody be inside.
+/// Counts the steps and lets the first `most` of them pass, and lets either no client or all clients be inside.
 #[derive(Drop)]
 pub struct Counting {
     /// How many steps came.

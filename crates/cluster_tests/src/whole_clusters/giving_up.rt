@@ -55,7 +55,7 @@ fn lock_within<R: Wait + Clock>(
 }
 
 /// Client 1 of the last node holds `r`, and leaves it while the time of client 2 of node 1 ends, which the clock of the
-/// test says. Returns whether client 2 was let in. Either way nothing is left behind.
+/// test says. Returns whether client 2 was let in. Either way nothing is left.
 fn race<R: Wait + Threads + Sync + Abort>(
     rt: &R,
     alloc: Global,
@@ -84,7 +84,7 @@ fn race<R: Wait + Threads + Sync + Abort>(
     was_let_in(rt, alloc, cluster, at, came)
 }
 
-/// Returns whether client 2 was let in, by what it got. Asserts that nothing is left behind, after it has left the name.
+/// Returns whether client 2 was let in, by what it got. Asserts that nothing is left after it has left the name.
 fn was_let_in<R: Wait + Abort>(
     rt: &R,
     alloc: Global,

@@ -21,8 +21,7 @@ const COUNTS: &[(u16, Option<NewPostError>)] = &[
     (64, None),
 ];
 
-/// Returns how many nodes a cluster has that is made of this many, and how many books when it is closed, or why there
-/// is none.
+/// Returns how many nodes a cluster of this many has, and how many books when it is closed, or why none is made.
 fn counts_of(alloc: Global, nodes: u16) -> Result<(u16, usize), NewPostError> {
     match new_cluster(alloc, nodes, 7, OpenGate) {
         Ok(cluster) => {
