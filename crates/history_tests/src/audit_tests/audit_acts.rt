@@ -95,15 +95,15 @@ pub enum Act {
     HasLosses(u64, usize),
 }
 
-/// For which cluster an auditor is made: of how many nodes, whether it is audited, and of how many nodes and with which
-/// start the auditor takes it to be.
+/// The cluster that an auditor is made for: its number of nodes, whether it is audited, and the number of nodes and the
+/// start that the auditor takes it to have.
 #[derive(Clone, Copy)]
 pub struct Made {
     /// How many nodes the cluster has.
     pub nodes: u16,
     /// Whether it is audited.
     pub is_audited: bool,
-    /// How many nodes the auditor takes it to have, and with which start.
+    /// How many nodes the auditor takes it to have, and which start.
     pub auditor: (u16, u64),
 }
 
@@ -121,13 +121,13 @@ pub const TWO_NODES: Made = Made {
     auditor: (2, 0),
 };
 
-/// The book of a node from which a round took all events, and which is stopped since a frame was lost.
+/// The book of a node after a round took all its events. The node is stopped since a frame was lost.
 pub const LOST: Ended = Ended {
     fault: Some(Stop::Send),
     events: 0,
 };
 
-/// The book of a node from which a round took all events, and which was not stopped before it was closed.
+/// The book of a node after a round took all its events. The node was not stopped before it was closed.
 pub const TAKEN: Ended = Ended {
     fault: Some(Stop::Refused),
     events: 0,
@@ -338,7 +338,7 @@ fn take<R: Wait>(rt: &R, alloc: Global, site: &Site, clock: u64) -> Result<Given
 }
 
 /// Has the site of a node hand over what came after an event with this clock, and does it again if memory ran out.
-/// Returns what became of it, too.
+/// Returns how that ended, too.
 pub fn hand_over<R: AllocGlobal + Wait + Abort>(
     rt: &R,
     at: At<'_>,
@@ -502,7 +502,7 @@ fn done<R: AllocGlobal + Threads + Wait + Abort + Sync>(
     tried
 }
 
-/// Has a cluster and this auditor do and show all of a row, and closes the cluster. If there is none, memory ran out.
+/// Has a cluster and this auditor do and show all of a row, and closes the cluster. If none is made, memory ran out.
 fn done_with<R: AllocGlobal + Threads + Wait + Abort + Sync>(
     rt: &R,
     auditor: &mut Auditor,
@@ -547,7 +547,7 @@ fn perform<R: AllocGlobal + Threads + Wait + Abort + Sync>(rt: &R, row: &Row) {
 /// How often it is looked for the end of the thread of a row.
 const MOST_LOOKS: u64 = 20_000_000;
 
-/// Waits until a thread has counted its end, for which it is looked many times. Ends the test if it does not.
+/// Looks many times, until a thread has counted its end. Ends the test if it does not.
 fn await_end(rt: &impl Abort, at: At<'_>, ends: &AtomicU64) {
     for _ in 0..MOST_LOOKS {
         if ends.load(Ordering::SeqCst) > 0 {

@@ -1,5 +1,5 @@
 //! An auditor, which takes what has happened at books and puts it into one run, round after round. A trace cannot tell
-//! in which parts it takes the events, nor which of them do not fit.
+//! in which parts it takes the events, or which of them do not fit.
 use crate::kept_books::book_steps::{Wire, frame};
 use crate::kept_books::histories::{Done, ONE, TWO, books_after};
 use crate::kept_books::history_asserting::{assert_same, fail_at};
@@ -60,7 +60,7 @@ pub enum Act {
     Finds(Came),
     /// It puts all that it can into the run, and this event is left, or none.
     Leaves(Option<Came>),
-    /// It has this run, and the marks that were told are those of the lock.
+    /// It has this run, and was told the marks of the lock.
     Has(Shown),
     /// It notes as lost that this message was sent in a frame with this clock.
     Loses(u64, Wire),
@@ -70,7 +70,7 @@ pub enum Act {
     HasLosses(u64, usize),
 }
 
-/// An observer that compares each mark that it is told with the one that is due: those of one lock.
+/// An observer that compares each mark that it is told with the mark of one lock that is due.
 #[derive(Drop)]
 struct Compares {
     told: Told,

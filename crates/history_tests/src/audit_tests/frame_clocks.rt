@@ -1,5 +1,5 @@
-//! Frames that come or are lost with another clock than that of the event that sent them: an auditor finds each in the
-//! round in which the run has its sender's events up to the frame's clock. A frame with its own clock passes.
+//! Frames that come or are lost with another clock than the event that sent them. An auditor finds each in the round in
+//! which the run has its sender's events up to the frame's clock. A frame with its own clock passes.
 use crate::audit_tests::audits::Act::{
     Advances, AdvancesInParts, Finds, FindsNotLost, Gets, Has, HasLosses, Leaves, Loses,
 };

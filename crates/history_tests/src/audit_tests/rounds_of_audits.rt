@@ -18,7 +18,7 @@ use ra_stamp::Mode;
 /// The last clock.
 const LAST_CLOCK: u64 = 1 << 62;
 
-/// The book of a node from which no round took anything.
+/// The book of a node before any round took anything from it.
 const WHOLE: Ended = Ended {
     fault: None,
     events: 2,
@@ -53,7 +53,7 @@ const SECOND: Came = Came {
     message: Wire::Asks,
 };
 
-/// The REQUEST with clock 100, which is ahead of that of node 1.
+/// The REQUEST with clock 100, which is ahead of node 1's clock.
 const TOO_EARLY: Sends = Sends {
     clock: 100,
     message: "deliver request 1 2 r X 1",

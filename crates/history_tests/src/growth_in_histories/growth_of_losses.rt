@@ -15,7 +15,7 @@ use std::sync::Wait;
 use std::thread::Threads;
 use test_support::{At, Tried, again, assert_grown, both, part, reply, request, row};
 
-/// What two nodes handed over so far: what became of the calls, the clock of the last event of node 1 and of node 2, 0
+/// What two nodes handed over so far: how the calls ended, the clock of the last event of node 1 and of node 2, 0
 /// before the first, and how many frames were lost.
 #[derive(Clone, Copy)]
 struct Rounds {
@@ -41,7 +41,7 @@ fn sent_at(clock: u64) -> Option<Message> {
     }
 }
 
-/// Has a node hand over what came after an event with this clock. Of one event at most one frame is lost, which was
+/// Has a node hand over what came after an event with this clock. At most one frame of an event is lost, and it was
 /// sent.
 fn node_after<R: AllocGlobal + Wait + Abort>(
     rt: &R,
@@ -77,7 +77,7 @@ fn round_after<R: AllocGlobal + Wait + Abort>(
     }
 }
 
-/// Has client 1 of node 1 lock the name and unlock it. What became of it, a round shows.
+/// Has client 1 of node 1 lock the name and unlock it. A round shows how that ended.
 fn use_once<R: Wait + Abort>(rt: &R, alloc: Global, cluster: &Cluster<OpenGate>) {
     if refusal_of_lock(rt, alloc, cluster, 1, Mode::Exclusive).is_none() {
         let _unlocked = refusal_of_unlock(rt, alloc, cluster, 1).is_none();
@@ -90,7 +90,7 @@ fn use_in_a_round<R: AllocGlobal + Wait + Abort>(rt: &R, cluster: &Cluster<OpenG
     round_after(rt, cluster, NO_ROUND)
 }
 
-/// Returns what became of the rounds. In a cluster that was stopped since a frame could not be sent, one frame was
+/// Returns how the rounds ended. In a cluster that was stopped since a frame could not be sent, one frame was
 /// handed over as lost. In one that was stopped for another cause, it may be that the closed post did not take a frame
 /// after that; in any other one, none is lost. If the client did not lock and unlock the name, memory ran out.
 fn judge(rt: &impl Abort, fault: Option<Stop>, rounds: Rounds) -> Result<Tried, Memory> {
@@ -135,7 +135,7 @@ fn try_running<R: AllocGlobal + Threads + Wait + Abort + Sync>(rt: &R) -> Result
     }
 }
 
-/// A frame for which there is no memory is handed over as lost.
+/// If memory for a frame is lacking, it is handed over as lost.
 #[test]
 fn growth_of_lost_frames_that_are_audited(rt: HostRuntime) {
     assert_grown!(&rt, again(try_running(&rt), try_running(&rt)));

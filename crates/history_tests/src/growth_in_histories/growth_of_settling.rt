@@ -21,11 +21,11 @@ pub const ONE_LOCK: &[Done] = &[
     AtNode(1, Takes(LEAVE)),
 ];
 
-/// How many steps the run has into which books settle, and how many requests, messages, losses and waiting requests its
+/// How many steps the run has that books settle into, and how many requests, messages, losses and waiting requests its
 /// report tells.
 type Due = (u64, (u128, u128), (u128, u128));
 
-/// Asserts that books settled into such a run, in which no message is under way.
+/// Asserts that books settled into such a run, with no message under way.
 fn assert_run(rt: &impl Abort, settled: &Settled, due: Due) {
     let (at, report) = (row("books settle"), &settled.report);
     let (made, left) = (
@@ -76,7 +76,7 @@ fn growth_of_settling(rt: HostRuntime) {
     assert_grown!(&rt, again(first, second));
 }
 
-/// The same, after which the client asks again, and its REQUEST is lost.
+/// The same, and then the client asks again, and its REQUEST is lost.
 const ASKS_AGAIN: &[Done] = &[
     AtNode(1, Takes(ASK)),
     Passes(1, 0),

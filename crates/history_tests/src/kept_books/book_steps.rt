@@ -55,13 +55,13 @@ pub const LEAVE: Call<'static> = Leave(1);
 /// A message.
 #[derive(Clone, Copy)]
 pub enum Wire {
-    /// That of [`ASKS`].
+    /// The frame of [`ASKS`].
     Asks,
-    /// That of [`REPLIES`].
+    /// The frame of [`REPLIES`].
     Replies,
 }
 
-/// What becomes of client 1's request.
+/// What happens to client 1's request.
 #[derive(Clone, Copy)]
 pub enum Turn {
     /// It is made.
@@ -191,7 +191,7 @@ fn assert_sent(
     }
 }
 
-/// Returns the mark for what becomes of client 1's request.
+/// Returns the mark for what happens to client 1's request.
 fn mark(turn: Turn) -> Mark {
     let entry = entry();
     match turn {
@@ -314,7 +314,7 @@ fn shows(rt: &impl Abort, at: At<'_>, book: &Book, step: Step<'_>) {
 }
 
 /// Has a book do this step, or asserts that it shows it. Ends the test if it does anything else, and returns whether
-/// there was memory for it.
+/// memory for it was left.
 pub fn does(rt: &impl Abort, alloc: Global, at: At<'_>, book: &mut Book, step: Step<'_>) -> bool {
     match step {
         Takes(call) => return takes(rt, alloc, at, book, call, None),

@@ -213,7 +213,7 @@ const ASKS_AS_NODE_5: [u8; 25] = [
     2, 1, 0, 5, 0, 2, 1, 0, 0, 0, 0, 0, 0, 0, 1, 0, 0, 0, 0, 0, 0, 0, 1, 1, b'r',
 ];
 
-/// What books refuse, after which they are as before.
+/// What books refuse. They are then as before.
 const REFUSED: &[Row] = &[
     Row {
         shows: "a frame is flagged once",

@@ -9,7 +9,7 @@ use ra_frame::FrameError;
 use std::process::Abort;
 use test_support::{At, r};
 
-/// With how many of the 256 bytes at each place node 2 of 3 takes the REQUEST of version 1.
+/// How many of the 256 bytes, at each place, let node 2 of 3 take the REQUEST of version 1.
 const TAKEN_1: [u32; 23] = [
     // The version 1, the kind REQUEST, a sender 1 or 3, the receiver 2, and a mode.
     1, 1, 2, 1, 2,
@@ -21,7 +21,7 @@ const TAKEN_1: [u32; 23] = [
     1, 65,
 ];
 
-/// With how many that of version 2.
+/// How many let it take the REQUEST of version 2.
 const TAKEN_2: [u32; 25] = [
     // The version 2, the kind REQUEST, a sender 1 or 3, the receiver 2, and a mode.
     1, 1, 1, 2, 1, 1, 5,

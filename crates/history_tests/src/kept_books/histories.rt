@@ -1,4 +1,4 @@
-//! Books to which something was done, and grants that clients got. The scenes are no traces, since most are no run: a
+//! Books to which something was done, and grants that clients got. The scenes are not traces, since most are no run: a
 //! book alone goes on, shows what it has, or takes what no book sent.
 use crate::kept_books::book_steps::Call::Receive;
 use crate::kept_books::book_steps::{Step, does, takes};
@@ -12,8 +12,7 @@ use std::alloc::Global;
 use std::process::Abort;
 use test_support::{At, row};
 
-/// A book in which nothing has happened: that of node `me` of `nodes`, in which each name begins with the number
-/// `start`.
+/// The book of node `me` of `nodes` before its first event. Each name begins with the number `start` in it.
 #[derive(Clone, Copy)]
 pub struct Made {
     /// Its node.
@@ -45,7 +44,7 @@ pub const TWO_OF_THREE: Made = Made {
     start: 0,
 };
 
-/// What is done to books, each of which is at the place of its node. All of it is about `r`.
+/// What is done to books, each at the place of its node. All of it is about `r`.
 #[derive(Clone, Copy)]
 pub enum Done {
     /// The book of this node does or shows this.
@@ -180,7 +179,7 @@ pub fn assert_follows(rt: &impl Abort, alloc: Global, words: &str, made: Made, s
     }
 }
 
-/// Returns these grants for `r`, up to the first for which there is no memory.
+/// Returns these grants for `r`, up to the first that finds no memory.
 pub fn grants_of(rt: &impl Abort, alloc: Global, all: &[Granted]) -> Vec<Grant> {
     let mut grants = Vec::new(alloc);
     for granted in all {

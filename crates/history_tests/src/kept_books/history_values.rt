@@ -8,11 +8,11 @@ use std::alloc::Global;
 use std::process::Abort;
 use test_support::{entry_of, r};
 
-/// Makes the book of a node of this many, in which each name begins with the number `start`.
+/// Makes the book of a node of this many. Each name begins with the number `start` in it.
 ///
 /// # Errors
 ///
-/// Why there is none, or `BadNode` if there is no such number.
+/// Why no book is made, or `BadNode` if no node has such a number.
 pub fn new_book(alloc: Global, number: u16, nodes: u16, start: u64) -> Result<Book, NewError> {
     match NodeId::new(number) {
         Some(me) => Book::new(alloc, me, nodes, start),

@@ -1,4 +1,4 @@
-//! Outcomes of settling books in which a script was run, or was not.
+//! Outcomes of settling books that recorded a script, or did not.
 use crate::kept_books::book_steps::Call::{Ask, Leave, Receive};
 use crate::kept_books::book_steps::Step::{Fails, Loses, Posts, Takes};
 use crate::kept_books::book_steps::{ASK, ASKS, LEAVE, Turn};
@@ -97,7 +97,7 @@ fn assert_outcomes<R: Abort + AllocGlobal>(rt: &R, cases: &[Case]) {
     }
 }
 
-/// The books of two nodes in which nothing has happened, and a script of two nodes without clients.
+/// The books of two nodes before their first events, and a script of two nodes without clients.
 const IDLE: Case = Case {
     shows: "two nodes without clients",
     nodes: 2,

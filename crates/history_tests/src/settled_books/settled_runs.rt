@@ -1,4 +1,4 @@
-//! The run into which books settle.
+//! The run that books settle into.
 use crate::kept_books::book_steps::Call::{Ask, Leave, Receive};
 use crate::kept_books::book_steps::Step::{Loses, Takes};
 use crate::kept_books::book_steps::{ASK, ASKS, LEAVE};
@@ -148,7 +148,7 @@ const FIRST: Granted = Granted {
     seq: 1,
 };
 
-/// The run into which this settles.
+/// The run that this settles into.
 const LOCKED_ONCE: &[&str] = &[
     "ask 1 1 r X",
     "deliver request 1 2 r X 1",
@@ -176,7 +176,7 @@ const READ_AT_ONCE: &[Done] = &[
     AtNode(2, Takes(Leave(2))),
 ];
 
-/// The run into which this settles.
+/// The run that this settles into.
 const READS_AT_ONCE: &[&str] = &[
     "ask 1 1 r S",
     "ask 2 2 r S",
