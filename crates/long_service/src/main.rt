@@ -1,6 +1,6 @@
 //! A service that goes on for long. Clients lock and unlock names, and every so often one of them audits the cluster,
-//! so that its memory does not grow with the number of locks. After each round of the audit each node forgets the names
-//! that nobody uses, so that its memory does not grow with the names that were ever locked either.
+//! so its memory does not grow with the number of locks. After each round of the audit each node forgets the names that
+//! nobody uses, so its memory does not grow with the number of names either.
 //!
 //! The arguments are how many locks to ask for in all, how many nodes and how many clients. Two more may follow: of how
 //! many locks one is to be given up, and how many names are locked in turn. Without them, or if they are 0, each client
@@ -33,7 +33,7 @@ struct Plan {
     locks: u64,
     nodes: u16,
     clients: u16,
-    /// Of how many locks one is to be given up, or 0 if none is.
+    /// One lock in this many is given up, or none if it is 0.
     given_up: u64,
     /// How many names are locked in turn, or 0 if each client has its own one of `NAMES`.
     names: u64,
@@ -68,7 +68,7 @@ struct Rounds {
 }
 
 impl Rounds {
-    /// Makes the audit of a cluster of this many nodes, in which nothing has happened yet.
+    /// Makes the audit of a cluster of this many nodes. Nothing has happened in it yet.
     fn new(alloc: Global, nodes: u16) -> Result<Rounds> {
         let counts = Counts {
             told: Told::new(),
@@ -205,7 +205,7 @@ fn letter(number: u64) -> u8 {
     b'a' + (number % 16) as u8
 }
 
-/// Returns the name that a client locks in its turn, the first of which is 0.
+/// Returns the name that a client locks in its turn. The first turn is 0.
 fn name_of(plan: Plan, client: u16, turn: u64) -> Option<Name> {
     if plan.names == 0 {
         let name = NAMES.get(usize::from(client % 4))?;
@@ -490,7 +490,7 @@ fn why_not(cause: CloseError) -> Error {
     }
 }
 
-/// Returns what is in the run of an audit in which so many locks were given up.
+/// Returns what is in the run of an audit in which this many locks were given up.
 fn figures_of(rounds: &Rounds, given_up: u64) -> Figures {
     let auditor = &rounds.auditor;
     Figures {
