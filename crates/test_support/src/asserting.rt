@@ -1,6 +1,6 @@
-//! How a test ends that does not find what it should. A library may not end a process, so these are macros, by which
-//! the test does so. Only `assert_same` is a function of each crate of tests, since its many calls would all be longer
-//! to prove.
+//! How a test ends that does not find what it should. A library may not end a process, so these are macros, and the
+//! test does so. Only `assert_same` is a function of each crate of tests, since its many calls would all be longer to
+//! prove.
 
 /// Asserts that each of these values prints as the text beside it.
 #[macro_export]
@@ -20,7 +20,7 @@ macro_rules! assert_words {
     };
 }
 
-/// Asserts that calls of which a growth was refused had the right answer, and changed nothing.
+/// Asserts that calls with a refused growth had the right answer, and changed nothing.
 #[macro_export]
 macro_rules! assert_grown {
     ($rt:expr, $tried:expr) => {

@@ -4,8 +4,8 @@ use std::alloc::Global;
 use std::fmt;
 use std::fmt::{Debug, Display};
 
-/// Where a test is: the label of a scene or a row, and what of it is tried, such as a step, with its number. Steps are
-/// numbered from 1 up. A place that [`part`] or [`row`] made has less.
+/// Where a test is: the label of a scene or a row, and the part of it that is tried, such as a step, with its number.
+/// Steps are numbered from 1 up. A place that [`part`] or [`row`] made has less.
 #[derive(Clone, Copy)]
 pub struct At<'a>(pub &'a str, pub &'a str, pub usize);
 
@@ -34,7 +34,7 @@ impl fmt::Display for At<'_> {
     }
 }
 
-/// Something else came than was expected there.
+/// Something else came than was expected at this place.
 #[derive(Drop)]
 pub struct Difference<'a, T> {
     pub at: At<'a>,

@@ -1,13 +1,13 @@
-//! What becomes of calls if a growth may be refused.
+//! How calls end if a growth may be refused.
 //!
 //! A test of growth makes each call, and makes it again if it answered that memory ran out. Whatever else a call
 //! answers or changes, the test asserts on the spot, and so prints which call it was, what was expected and what came.
 //! If the test met no refusal, as under `rt test`, it passes. If it met one and found all as it should be, it fails
-//! with words of its own. By these `tools/refuse-growth`, which has each allocation refused in turn, tells it from one
-//! that failed.
+//! with words of its own. These words tell `tools/refuse-growth`, which has each allocation refused in turn, that it is
+//! not a real failure.
 use ra_stamp::Memory;
 
-/// What became of calls.
+/// How calls ended.
 #[derive(Clone, Copy, Debug, PartialEq)]
 pub enum Tried {
     /// They were taken.
@@ -19,7 +19,7 @@ pub enum Tried {
 }
 
 impl Tried {
-    /// Returns with which words a test fails that makes these calls, or `None` if it passes.
+    /// Returns the words with which a test of these calls fails, or `None` if it passes.
     pub fn fault(self) -> Option<&'static str> {
         match self {
             Tried::NoFailure => None,
@@ -31,7 +31,7 @@ impl Tried {
     }
 }
 
-/// Returns what became of these calls and those.
+/// Returns how these calls and those ended together.
 pub fn both(first: Tried, second: Tried) -> Tried {
     match (first, second) {
         (Tried::NoFailure, Tried::NoFailure) => Tried::NoFailure,
@@ -40,8 +40,7 @@ pub fn both(first: Tried, second: Tried) -> Tried {
     }
 }
 
-/// Returns what became of calls that were made twice. Each time they may find no memory, if the first of them is
-/// refused.
+/// Returns how calls ended that were made twice. Each time they may find no memory, if the first of them is refused.
 pub fn again(first: Result<Tried, Memory>, second: Result<Tried, Memory>) -> Tried {
     match (first, second) {
         (Ok(tried), _) => tried,
