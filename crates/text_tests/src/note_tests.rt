@@ -1,3 +1,3 @@
-//! What is told to a person.
+//! What a note tells a person.
 pub mod asked_notes;
 pub mod explained_texts;

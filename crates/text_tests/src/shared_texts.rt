@@ -19,7 +19,7 @@ end
 /// How many bytes that trace has.
 pub const ONE_LOCK_LENGTH: usize = 140;
 
-/// The script of which it is the trace.
+/// The script whose trace it is.
 pub const ONE_LOCK_SCRIPT: &str = r#"nodes = 2
 
 [[client]]

@@ -59,7 +59,7 @@ fn after<'a>(text: &'a str, first: &str, second: &str) -> Option<&'a str> {
     text.strip_prefix(first)?.strip_prefix(second)
 }
 
-/// Returns what became of a line that came twice, and the text after its answers.
+/// Returns how a line ended that came twice, and the text after its answers.
 fn tried_of<'a>(rt: &impl Abort, at: At<'_>, text: &'a str, pair: &Pair) -> (Tried, &'a str) {
     if let Some(rest) = after(text, pair.0, pair.1) {
         return (Tried::NoFailure, rest);
@@ -75,7 +75,7 @@ fn tried_of<'a>(rt: &impl Abort, at: At<'_>, text: &'a str, pair: &Pair) -> (Tri
     }
 }
 
-/// Returns what became of the lines with these answers.
+/// Returns how the lines with these answers ended.
 fn tried_in(rt: &impl Abort, text: &str) -> Tried {
     let (label, mut tried) = ("a book", Tried::NoFailure);
     let mut rest = text.strip_prefix("ok\n").unwrap_or("");

@@ -39,7 +39,7 @@ const TWO_WRITERS_VERDICT: MarksVerdict = MarksVerdict::Valid {
     grants: 2,
 };
 
-/// Compares what came of a call with what is expected. If the call was refused, memory ran out, which is the fault
+/// Compares the outcome of a call with the expected one. If the call was refused, memory ran out, which is the fault
 /// `memory`.
 fn judge<T: Debug + PartialEq + Copy, E: Debug + PartialEq + Copy>(
     rt: &impl Abort,
@@ -132,7 +132,7 @@ fn growth_of_a_script_and_of_choices(rt: HostRuntime) {
     assert_grown!(&rt, both(script, choices));
 }
 
-/// Returns a writer that takes this text and nothing else.
+/// Returns a writer that takes exactly this text.
 fn taking(text: &str) -> FailingWriter<'_> {
     failing(text, 1_000, None)
 }
@@ -425,8 +425,8 @@ fn nothing_counted() -> Counter {
     }
 }
 
-/// Looks at what came of drawing. A picture has elements, each with its end. If there is none, memory ran out, and
-/// nothing was written.
+/// Looks at the outcome of drawing. A picture has elements, each with its end. If no picture was drawn, memory ran out,
+/// and nothing was written.
 fn judge_drawing<V: Judged>(
     rt: &impl Abort,
     label: &str,

@@ -172,7 +172,7 @@ pub fn assert_told(rt: &impl Abort, label: &str, said: Told, text: &str) {
 /// What is asked about, and what is to be said, or nothing if the text is empty.
 pub struct Note(pub Asked, pub &'static str);
 
-/// Asserts that the right text is said of each row. The text tells of which.
+/// Asserts that the right text is said about each row. The text tells which row it is.
 pub fn assert_said(rt: &(impl Abort + AllocGlobal), label: &str, notes: &[Note]) {
     for Note(asked, text) in notes {
         assert_told(rt, label, said(rt.alloc(), *asked), text);

@@ -183,7 +183,7 @@ fn nothing_is_said_if_nothing_is_wrong(rt: HostRuntime) {
     assert_said(&rt, "nothing is wrong", UNSAID);
 }
 
-/// Returns choices by which a REQUEST is repeated, and its copy is still under way when the client has finished.
+/// Returns choices that repeat a REQUEST, so that its copy is still under way when the client has finished.
 fn copied(alloc: Global) -> Option<Policy> {
     let mut choices = Choices::new(alloc);
     for choice in [

@@ -22,7 +22,7 @@ waiting 0
 queued 0
 ";
 
-/// How many bytes the lines of the run have of which the trace is [`ONE_LOCK`].
+/// How many bytes the lines of the run have whose trace is [`ONE_LOCK`].
 const ONE_LOCK_LINES_LENGTH: usize = 110;
 
 /// The line of its choices.
@@ -84,7 +84,7 @@ pub fn performed(
     }
 }
 
-/// Performs a script from the oldest message on, and returns the fault, or `None` if there is none.
+/// Performs a script from the oldest message on, and returns the fault, or `None`.
 fn fault_of(
     alloc: Global,
     reader: &mut FailingReader<'_>,
@@ -151,8 +151,8 @@ fn assert_prefix(
     assert_left(rt, at, &writer, left);
 }
 
-/// Asserts that it is so after each number of bytes, for a fault after which other writers would try again, and for a
-/// write that takes nothing. Asserts, too, that all is written byte by byte to a writer that would fail after it.
+/// Asserts this after each number of bytes, for a fault that makes other writers try again, and for a write that takes
+/// nothing. Asserts, too, that all is written byte by byte to a writer that would fail after it.
 fn assert_unwritten(
     rt: &(impl Abort + AllocGlobal),
     label: &str,

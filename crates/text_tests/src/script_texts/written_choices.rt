@@ -81,7 +81,7 @@ fn fault_by(alloc: Global, seed: u64, writer: &mut FailingWriter<'_>) -> Option<
     performed(alloc, &mut reader, writer, OutputKind::Choices, &policy).err()
 }
 
-/// By some seed below 100 a message is repeated, for which there is no word, so that nothing is written.
+/// Some seed below 100 repeats a message, which no word can say, so nothing is written.
 #[test]
 fn a_run_with_a_repeat_has_no_words(rt: HostRuntime) {
     for seed in 0..100 {

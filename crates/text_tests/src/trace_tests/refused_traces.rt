@@ -38,7 +38,7 @@ struct Case {
     cause: StepError,
 }
 
-/// The greatest start from which ten requests can be made.
+/// The greatest start that leaves numbers for ten requests.
 const TEN_LEFT: u64 = u64::MAX - 10;
 
 const BUSY: StepError = StepError::Node(NodeRefusal::Busy);
@@ -67,7 +67,8 @@ fn assert_no_trace(
     assert_same(rt, at, &fault, &refused);
 }
 
-/// Adds the step of a case, as the first step or after 39 others, and one more step. Returns whether there was room.
+/// Adds the step of a case, as the first step or after 39 others, and then another step. Returns whether there was
+/// room.
 fn adds_case(steps: &mut Steps, case: &Case, place: u64) -> bool {
     (place < 40 || adds_39_steps(steps, case.start))
         && adds_line(steps, case.line)

@@ -130,7 +130,7 @@ fn assert_fault<V: Judged>(rt: &(impl Abort + AllocGlobal), text: &str, fault: E
     }
 }
 
-/// Asserts it of faults after which other readers would try again, and of one after which they would not.
+/// Asserts it for faults that make other readers try again, and for one that does not.
 pub fn assert_not_tried_again<V: Judged>(rt: &(impl Abort + AllocGlobal), text: &str) {
     assert_fault::<V>(rt, text, Interrupted);
     assert_fault::<V>(rt, text, WouldBlock);

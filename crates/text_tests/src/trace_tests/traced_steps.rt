@@ -112,7 +112,7 @@ pub struct Written {
     pub trace: &'static str,
 }
 
-/// Asserts that of the steps that each trace tells just this trace is written.
+/// Asserts that the steps of each trace are written as exactly this trace.
 pub fn assert_written(rt: &(impl Abort + AllocGlobal), rows: &[Written]) {
     for Written {
         shows: label,
