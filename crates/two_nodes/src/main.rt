@@ -45,8 +45,7 @@ impl Site {
         Ok(Site { node, clock: 0 })
     }
 
-    /// Lets an event happen. It sets the clock to one more, or to one more than that of a frame that comes, if that is
-    /// greater.
+    /// Lets an event happen. It raises the clock by 1, or to the clock of a frame that comes plus 1 if that is greater.
     fn step(&mut self, alloc: Global, event: Event) -> Result<Outcome> {
         let clock = max(self.clock, event.clock());
         // Before the event, so that the node is as it was if no clock is left.
