@@ -20,7 +20,7 @@ use std::process::Abort;
 use test_support::{At, Tried, again, assert_grown, assert_memory, both, entry, id, part, r, row};
 
 /// Node 1 enters first, then node 2, and then the REQUEST of node 1 is repeated and lost. Its copy is repeated so often
-/// that no room is left for one more. The client gives up, and the node forgets names.
+/// that no room is left for another. The client gives up, and the node forgets names.
 const LINES: [&str; 20] = [
     "ask 1 1 r X",
     "ask 2 1 r X",
@@ -57,8 +57,7 @@ fn make(
     }
 }
 
-/// Asserts that a world is like another one in which exactly these steps were made. If there is no memory to see that,
-/// says so.
+/// Asserts that a world is like another one that made exactly these steps. If memory to see that is lacking, says so.
 fn compare(
     rt: &(impl Abort + AllocGlobal),
     at: At<'_>,
@@ -109,7 +108,7 @@ fn try_line(
     Tried::RetrySucceeded
 }
 
-/// Makes the report of a world in which all steps were made. If there is none, memory ran out.
+/// Makes the report of a world in which all steps were made. If no report is made, memory ran out.
 fn try_report(rt: &(impl Abort + AllocGlobal), world: &World) -> Result<Tried, Memory> {
     match report_of(rt.alloc(), world) {
         Some(report) => {
@@ -217,8 +216,7 @@ fn try_asks(rt: &(impl Abort + AllocGlobal), world: &mut World) -> Tried {
     tried
 }
 
-/// Delivers the message in the middle, for which a world learns the place of each message. There may be no memory for
-/// that.
+/// Delivers the message in the middle. A world learns the place of each message for that, and may lack the memory.
 fn try_middle(rt: &(impl Abort + AllocGlobal), world: &mut World) -> Tried {
     let at = row("the message in the middle");
     match world.message_at(500) {
@@ -297,10 +295,10 @@ fn growth_of_the_line_of_a_mark(rt: HostRuntime) {
     assert_grown!(&rt, again(try_mark(&rt), try_mark(&rt)));
 }
 
-/// The lines of the report of a world in which nothing has happened.
+/// The lines of the report of a world before its first step.
 const NOTHING: &str = "requests 0\nmessages 0\nunder-way 0\nlost 0\nwaiting 0\nqueued 0\n";
 
-/// Makes the lines of the report of a world in which nothing has happened. If there are no lines, memory ran out.
+/// Makes the lines of the report of a world before its first step. If no lines are made, memory ran out.
 fn try_lines(rt: &(impl Abort + AllocGlobal), world: &World) -> Result<Tried, Memory> {
     match report_of(rt.alloc(), world) {
         Some(report) => {
@@ -316,7 +314,7 @@ fn growth_of_the_lines_of_a_report(rt: HostRuntime) {
     grow_world(&rt, Trial::Lines);
 }
 
-/// The lines of the report of a single node at which client 1 asks for `r` and leaves it.
+/// The lines of the report of a single node whose client 1 asks for `r` and leaves it.
 const ONE_LOCK: &str = "request 1 1 r X 1
 enter 1 1 r X 1
 leave 1 1 r X 1
@@ -471,7 +469,7 @@ fn growth_of_a_script_driven_by_chance_with_a_repeat(rt: HostRuntime) {
     }
 }
 
-/// Counts what an observer is told, which takes no memory.
+/// Counts what an observer is told. That takes no memory.
 #[derive(Drop)]
 struct Count {
     told: u64,
@@ -502,7 +500,7 @@ fn assert_three_seeds(rt: &impl Abort, found: &Survey) {
 /// Three seeds.
 const SEEDS: SeedRange = SeedRange { first: 1, last: 3 };
 
-/// Asserts that an observer was told of all three seeds, or not of the last one.
+/// Asserts that an observer has learned of all three seeds, or not of the last one.
 fn assert_told(rt: &impl Abort, label: &str, count: &Count, is_all: bool) {
     let at = part(label, "whether all seeds are told");
     assert_same(rt, at, &(count.told == 3), &is_all);

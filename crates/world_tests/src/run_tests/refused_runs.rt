@@ -9,7 +9,7 @@ use std::process::Abort;
 use test_support::{part, reply, request, row};
 
 /// Adds the steps in which client 1 of node 1 asks for `r` and its REQUEST, with this number, is delivered. Returns
-/// whether there was room.
+/// whether they found room.
 fn adds_request(steps: &mut Steps, seq: u64) -> bool {
     adds(steps, step_of(ASKS)) && adds(steps, Some(Step::Deliver(request(1, 2, seq))))
 }
@@ -40,7 +40,7 @@ struct Case {
     cause: StepError,
 }
 
-/// The greatest start from which ten requests can be made.
+/// The greatest start that leaves numbers for ten requests.
 const TEN_LEFT: u64 = u64::MAX - 10;
 
 const BUSY: StepError = StepError::Node(NodeRefusal::Busy);
@@ -54,7 +54,7 @@ fn fault_of(alloc: Global, start: u64, steps: &Steps) -> Option<RunError> {
     run_of(alloc, 2, start, steps).err()
 }
 
-/// Adds the step of a case, first or after the 39 others, and one more step. Returns whether there was room.
+/// Adds the step of a case, first or after the 39 others, and then another step. Returns whether they found room.
 fn adds_case(steps: &mut Steps, case: &Case, is_late: bool) -> bool {
     (!is_late || adds_39_steps(steps, case.start))
         && adds(steps, step_of(case.line))

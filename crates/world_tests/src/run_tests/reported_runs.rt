@@ -1,4 +1,4 @@
-//! Runs of a list of steps: what is reported about them, and at which step they are refused.
+//! Runs of a list of steps: what is reported about them, and which step is refused.
 use crate::world_steps::world_asserting::{assert_same, assert_text};
 use crate::world_steps::world_calls::step_of;
 use Answer::{BadCount, Refused, Reported};

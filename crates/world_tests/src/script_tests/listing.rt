@@ -205,8 +205,8 @@ const CHOICES_OF_A_MODEL: &[Listed] = &[
 ];
 
 /// The words were computed by a separate Python model of the algorithm, the policies and the generator PCG XSL RR
-/// 128/64, written from the rules in docs/ALGORITHM.md and docs/FORMATS.md. Of equal messages, a choice names the one
-/// that was drawn.
+/// 128/64, written from the rules in docs/ALGORITHM.md and docs/FORMATS.md. If messages are equal, a choice names the
+/// one that was drawn.
 #[test]
 fn the_choices_of_a_run_are_those_of_a_model(rt: HostRuntime) {
     assert_listed_of_four(&rt, CHOICES_OF_A_MODEL, false);
@@ -377,7 +377,7 @@ fn nothing_told(alloc: Global) -> Told {
     }
 }
 
-/// Asserts that just these outcomes were told.
+/// Asserts that exactly these outcomes were told.
 fn assert_told(rt: &impl Abort, label: &str, told: &Told, outcomes: &[(u64, SeedOutcome)]) {
     let came = (told.is_whole, told.ended.as_slice());
     assert_same(rt, row(label), &came, &(true, outcomes));
@@ -401,7 +401,7 @@ fn assert_told_up_to(
     assert_told(rt, label, &told, outcomes);
 }
 
-/// Asserts that a survey and searches tell what came of each seed, up to the one that is found.
+/// Asserts that a survey and searches tell the outcome of each seed, up to the one that is found.
 fn assert_told_each(rt: &(impl Abort + AllocGlobal), script: &Script) {
     const CUT_OFF: &[(u64, SeedOutcome)] = &[
         (5, SeedOutcome::Limit),

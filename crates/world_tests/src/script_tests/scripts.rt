@@ -123,7 +123,7 @@ fn refuses(rt: &(impl Abort + AllocGlobal), script: &mut Script) {
     assert_same(rt, row("its operations"), &script.ops_of(1), &Some(4));
 }
 
-/// Asserts that a script with one client takes 63 more, the last of which does 1,024 operations, and no more.
+/// Asserts that a script with one client takes 63 more, and no more; the last one does 1,024 operations.
 fn is_full(rt: &(impl Abort + AllocGlobal), script: &mut Script) {
     for _ in 0..63 {
         assert_client(rt, "up to 64 clients", script, 2, None);
@@ -168,7 +168,7 @@ const CLIENTS: &[(u32, Option<u16>, Option<u64>)] = &[
     (u32::MAX, None, None),
 ];
 
-/// Clients and places at which they have no operation.
+/// Clients, and places without an operation of theirs.
 const NO_OPERATIONS: &[(u32, u64)] = &[(0, 0), (1, 2), (1, u64::MAX), (2, 1), (3, 0)];
 
 /// Returns the number of a client's node.

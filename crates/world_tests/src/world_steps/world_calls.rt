@@ -1,4 +1,4 @@
-//! The calls of a world, and steps that are told by lines of a trace.
+//! The calls of a world, and steps given by lines of a trace.
 use ra_trace::Line;
 use ra_world::{Report, Step, StepError, World};
 use std::alloc::Global;

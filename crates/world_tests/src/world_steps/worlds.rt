@@ -52,7 +52,7 @@ fn only_what_may_come_next_is_accepted(rt: HostRuntime) {
 }
 
 /// The line of a step, the place at which its message is looked for first, and the deliveries of the messages that are
-/// under way then.
+/// then under way.
 struct Near {
     line: &'static str,
     place: u64,
@@ -120,7 +120,7 @@ const NEAR: &[Near] = &[
     },
 ];
 
-/// Returns the step by which the message at this place is delivered, or `None` if there is none.
+/// Returns the step that delivers the message at this place, or `None` if no message is there.
 fn delivery_at(world: &World, place: u64) -> Option<Step> {
     match world.message_at(place) {
         Some(message) => Some(Step::Deliver(message)),
