@@ -1,4 +1,4 @@
--- Which clients wait at the desk of a site. No public contract speaks of it.
+-- Who waits at the desk of a site. No public contract speaks of it.
 use Rattle.std.specs.Prelude.{◌≡◌, ℕ, List, All}
 use Rattle.ra_site.specs.declared.site.desk.Waiter.{Waiter}
 

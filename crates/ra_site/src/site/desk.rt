@@ -160,7 +160,8 @@ impl Desk {
         Ok(self.stepped(posted, None))
     }
 
-    /// Makes room for another client that waits, and returns that client, or `None` if there is no memory or no ticket.
+    /// Makes room for one more client that waits, and returns that client, or `None` if there is no memory or no
+    /// ticket.
     fn waiter(&mut self, request: &Request, ticket: Option<&SharedTicket>) -> Option<Waiter>
         ensures room { IfSome result (λ _. vec_len self.new.waiters < vec_capacity self.new.waiters) }
         ensures book { self.new.book ≡ self.old.book }
