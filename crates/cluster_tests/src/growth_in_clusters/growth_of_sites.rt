@@ -80,7 +80,7 @@ fn try_site<R: Wait + Abort>(rt: &R, alloc: Global, all: &Cluster, site: &Site) 
     tried
 }
 
-/// Makes a cluster of one site, and has a client lock `r` and unlock it there. If it cannot be made, memory ran out.
+/// Makes a cluster of one site, at which a client locks `r` and unlocks it. If it cannot be made, memory ran out.
 fn try_sites<R: Wait + Abort>(rt: &R, alloc: Global) -> Result<Tried, Memory> {
     let clusters = make_cluster(alloc, 1);
     match clusters.first() {

@@ -276,7 +276,7 @@ fn growth_of_a_bag_of_equal_messages_takes_no_more(rt: HostRuntime) {
     assert_grown!(&rt, again(try_two(&rt, true), try_two(&rt, true)));
 }
 
-/// Puts 3,000 messages into a bag, has it learn the slot of each one, and takes more than half of them from after
+/// Puts 3,000 messages into a bag, has it learn in which slot each one is, and takes more than half of them from after
 /// the first, so that it is closed up while more than 1,024 are left. Closing up needs no memory for the bits: if the
 /// bag kept one for each slot before, it does so after. If no bag is made, memory ran out.
 fn try_closed_up(rt: &(impl Abort + AllocGlobal)) -> Result<Tried, Memory> {

@@ -76,7 +76,7 @@ fn growth_of_settling(rt: HostRuntime) {
     assert_grown!(&rt, again(first, second));
 }
 
-/// The same, and then the client asks again, and its REQUEST is lost.
+/// The same, after which the client asks again, and its REQUEST is lost.
 const ASKS_AGAIN: &[Done] = &[
     AtNode(1, Takes(ASK)),
     Passes(1, 0),
