@@ -210,8 +210,9 @@ fn growth_of_a_performance(rt: HostRuntime) {
     let choices = try_format(&rt, "choices", OutputKind::Choices);
     let state = try_format(&rt, "state", OutputKind::State);
     let shrunk = try_format(&rt, "shrunk", OutputKind::Shrunk);
+    let sends = try_format(&rt, "trace with sends", OutputKind::TraceWithSends);
     let first = both(both(lines, trace), both(choices, state));
-    assert_grown!(&rt, both(first, shrunk));
+    assert_grown!(&rt, both(first, both(shrunk, sends)));
 }
 
 /// What is said of a line if nothing more precise is known.

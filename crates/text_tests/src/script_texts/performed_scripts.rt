@@ -2,7 +2,7 @@
 use crate::shared_texts::{ONE_LOCK, ONE_LOCK_LENGTH, ONE_LOCK_SCRIPT, failing};
 use crate::text_asserting::assert_same;
 use crate::trace_tests::traced_steps::assert_left;
-use OutputKind::{Choices, Lines, Shrunk, State, Trace};
+use OutputKind::{Choices, Lines, Shrunk, State, Trace, TraceWithSends};
 use ra_schedule::Policy;
 use ra_script::{OutputKind, PerformError, perform, perform_as, perform_trace};
 use std::alloc::Global;
@@ -24,6 +24,23 @@ queued 0
 
 /// How many bytes the lines of the run have whose trace is [`ONE_LOCK`].
 const ONE_LOCK_LINES_LENGTH: usize = 110;
+
+/// The trace of the run, with what each step sends.
+const ONE_LOCK_WITH_SENDS: &str = "trace 3 2 0 sends
+ask 1 1 r X
+send request 1 2 r X 1
+request 1 1 r X 1
+deliver request 1 2 r X 1
+send reply 2 1 r 1
+deliver reply 2 1 r 1
+enter 1 1 r X 1
+release 1 1 r
+leave 1 1 r X 1
+end
+";
+
+/// How many bytes that trace has.
+const ONE_LOCK_WITH_SENDS_LENGTH: usize = 188;
 
 /// The line of its choices.
 pub const ONE_LOCK_CHOICES: &str = "c1 m0 m0 c1\n";
@@ -52,6 +69,7 @@ pub fn text_of(format: OutputKind) -> &'static str {
     match format {
         Lines => ONE_LOCK_LINES,
         Trace => ONE_LOCK,
+        TraceWithSends => ONE_LOCK_WITH_SENDS,
         Choices => ONE_LOCK_CHOICES,
         Shrunk => ONE_LOCK_SHRUNK,
         State => ONE_LOCK_STATE,
@@ -80,7 +98,9 @@ pub fn performed(
     match format {
         Lines => perform(alloc, reader, writer, policy),
         Trace => perform_trace(alloc, reader, writer, policy),
-        Choices | Shrunk | State => perform_as(alloc, reader, writer, format, policy),
+        TraceWithSends | Choices | Shrunk | State => {
+            perform_as(alloc, reader, writer, format, policy)
+        }
     }
 }
 
@@ -98,6 +118,11 @@ fn fault_of(
 const FORMATS: &[(&str, OutputKind, usize)] = &[
     ("the lines", Lines, ONE_LOCK_LINES_LENGTH),
     ("the trace", Trace, ONE_LOCK_LENGTH),
+    (
+        "the trace with sends",
+        TraceWithSends,
+        ONE_LOCK_WITH_SENDS_LENGTH,
+    ),
     ("the choices", Choices, ONE_LOCK_CHOICES_LENGTH),
     ("the shrunk choices", Shrunk, ONE_LOCK_SHRUNK_LENGTH),
     ("the state", State, ONE_LOCK_STATE_LENGTH),
