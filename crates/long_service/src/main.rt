@@ -236,8 +236,8 @@ struct Client {
 
 impl Client {
     /// Returns how long the client waits for the lock of its turn: a random time while it has given up too few, and
-    /// otherwise as long as it takes. It waits for its last one, so that no REQUEST is under way when all have ended: each
-    /// other node has received those that its node sent before.
+    /// otherwise as long as it takes. It waits for its last one, so that no REQUEST is under way when all have ended:
+    /// each other node has received those that its node sent before.
     fn patience(&mut self, plan: Plan) -> Option<Duration> {
         let enough = self.given_up.saturating_mul(plan.given_up) >= self.turn;
         if plan.given_up == 0 || enough || self.turn >= self.share {

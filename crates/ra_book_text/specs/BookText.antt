@@ -23,7 +23,8 @@ abbrev pub version_text : BookVersion → List ℕ
 version_text One = codes "book 1"
 version_text Two = codes "book 2"
 
--- the first line: the version, the number of the node, how many nodes there are, and the number with which each resource begins
+-- the first line: the version, the number of the node, how many nodes there are, and the number with which each
+-- resource begins
 abbrev pub first_text : BookVersion → ℕ → ℕ → ℕ → List ℕ
 first_text version node nodes start =
     version_text version ++ field (decimal node) ++ field (decimal nodes) ++ field (decimal start)

@@ -96,8 +96,8 @@ fn open_locked(rt: &HostRuntime, path: &str) -> Result<File, OpenError> {
     Ok(file)
 }
 
-/// Syncs the file and its folder. If a sync of an earlier process failed, the kernel may keep the file otherwise than the
-/// disk has it, and sync no more: then the machine has to be started again first.
+/// Syncs the file and its folder. If a sync of an earlier process failed, the kernel may keep the file otherwise than
+/// the disk has it, and sync no more: then the machine has to be started again first.
 fn sync_whole(rt: &HostRuntime, file: &File, path: &str) -> io::Result<()> {
     file.sync_all()?;
     let mut folder = fs::canonicalize(rt, path)?;

@@ -56,8 +56,8 @@ fn nodes_and_start_of(text: &[u8]) -> Option<(NodeId, u64)>
     Some((nodes, start))
 }
 
-/// Reads the fields of a first line: the node, how many nodes there are, and the number with which each resource begins. It
-/// does not allocate.
+/// Reads the fields of a first line: the node, how many nodes there are, and the number with which each resource
+/// begins. It does not allocate.
 pub fn first_of(text: &[u8]) -> Option<(NodeId, (NodeId, u64))>
     ensures { result ≡ spec.first_of text.now }
 {
