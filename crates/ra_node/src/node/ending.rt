@@ -28,6 +28,7 @@ impl Node {
         ensures consistent { IsConsistentNode self.new }
     {
         let mut outcome = nothing(alloc);
+        // No `?`, which is dearer to prove.
         match self.leave_into(alloc, client, name, &mut outcome) {
             Ok(()) => Ok(outcome),
             Err(fault) => Err(fault),
@@ -85,6 +86,7 @@ impl Node {
         ensures consistent { IsConsistentNode self.new }
     {
         let mut outcome = nothing(alloc);
+        // No `?`, which is dearer to prove.
         match self.cancel_into(alloc, client, name, &mut outcome) {
             Ok(()) => Ok(outcome),
             Err(fault) => Err(fault),
