@@ -120,6 +120,7 @@ fn answer_from<B: BufRead, W: Write>(
         → HasEnded (B.remaining reader.old) (B.remaining reader.new) input.new.failed }
     ensures writer { IsErrOf result BookFault.Write ↔ (out.new.failed ≡ true) }
 {
+    // No `?`: what waits is written after a refusal, too.
     let taken = match take_first(reader, input, writer, out) {
         Ok(first) => {
             let mut node = TimedNode::new(alloc, first.member, first.start);

@@ -126,6 +126,7 @@ fn put_first(
         losses.defer();
         return Ok(());
     }
+    // No `?`, as in `put_losses`.
     match put_loss(alloc, world, nodes, flights, &frame) {
         Ok(()) => {
             losses.put();
