@@ -52,8 +52,8 @@ pub record LocksBelow (ops : List Op) (since place : ℕ) : Type 0 where
   pub locks : LocksAt ops place name
   pub not_above : IsBelow held name → ⊥
 
--- this place is the first one that locks a name that is not above each name held then; of the names held then that are
--- not below, the one that was locked first was locked at the place `since`
+-- this is the first place that locks a name while a name that is not below it is held, and `since` is the first place
+-- that locked such a held name
 pub record IsFirstBelow (ops : List Op) (since place : ℕ) : Type 0 where
   pub is : LocksBelow ops since place
   pub first : (earlier other : ℕ) → LocksBelow ops earlier other
@@ -76,7 +76,7 @@ pub record IsFirstOutOfOrder (script : ScriptState) (found : OutOfOrder) : Type 
   pub is : IsOf (λ ops. IsFirstBelow ops found.since found.place) script found.client
   pub first : (client : ℕ) → IsOf LocksOutOfOrder script client → found.client ≤ client
 
--- of the first client that holds a name at its end, this is the first place that locks one that it never unlocks
+-- the first place at which the first client that holds a name at its end locks a name that it never unlocks
 pub record IsFirstUnreleased (script : ScriptState) (found : Unreleased) : Type 0 where
   pub is : IsOf (λ ops. IsFirstNeverUnlocked ops found.place) script found.client
   pub first : (client : ℕ) → IsOf EndsHolding script client → found.client ≤ client
