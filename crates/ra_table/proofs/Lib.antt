@@ -12,5 +12,6 @@ pub mod Written
 pub mod Joined
 pub mod Kept
 pub mod Checked
+mod Idle
 mod Refused
 mod Places

@@ -5,6 +5,7 @@ ghost use Rattle.indexmap.specs.IndexMap.{get, IsUnique};
 ghost use Rattle.ra_stamp.specs.declared.entry.Mark.{Mark};
 ghost use Rattle.ra_table.specs.Table.{TableStep};
 ghost use Rattle.ra_table.specs.Refusals.{IsNotAbove};
+ghost use Rattle.ra_table.specs.Idle.{is_idle};
 ghost use Rattle.ra_table.specs.Answers.{RequestTells, CheckTells, EnterTells, IsAnswered};
 ghost use Rattle.ra_table.specs.NameTables.{AreOn, IsPlaceOfEntry, first_request};
 
@@ -204,6 +205,13 @@ impl NameTable {
             Some(_) => true,
             None => false,
         }
+    }
+
+    /// Returns whether no entry waits or holds.
+    pub fn is_idle(&self) -> bool
+        ensures { result ≡ is_idle self.now }
+    {
+        self.waiting.is_empty() && self.holding.is_empty()
     }
 
     /// Returns whether an entry granted so far has the entry's number or a greater one.

@@ -4,9 +4,10 @@ ghost use Rattle.std.specs.Map.{keys_of};
 ghost use Rattle.std.specs.Str.{bytes_eq};
 ghost use Rattle.ra_stamp.specs.declared.entry.Mark.{Mark};
 ghost use Rattle.ra_table.specs.Table.{empty_table, MayRequest, MayEnter, TableStep};
+ghost use Rattle.ra_table.specs.Idle.{is_idle};
 ghost use Rattle.ra_table.specs.Refusals.{IsNodeBusy, IsNotAbove, IsHeld, HasEarlier};
 ghost use Rattle.ra_table.specs.Laws.{IsConflictFree};
-ghost use Rattle.ra_table.specs.NameTables.{IsPlaceOf};
+ghost use Rattle.ra_table.specs.NameTables.{IsPlaceOf, table_of};
 
 use crate::error::{EnterError, LeaveError, RequestError, WithdrawError};
 use crate::name_table::NameTable;
@@ -81,6 +82,18 @@ fn place_of_name(name_tables: &IndexMap<Name, NameTable>, latest: usize, name: &
         return next;
     }
     name_tables.get_index_of(name).unwrap_or(name_tables.len())
+}
+
+/// Returns whether no entry waits or holds in any of the tables.
+fn are_idle(name_tables: &IndexMap<Name, NameTable>) -> bool
+    ensures { result ≡ is_idle (table_of name_tables.now.entries) }
+{
+    for name_table in name_tables.values() {
+        if !name_table.is_idle() {
+            return false;
+        }
+    }
+    true
 }
 
 impl Table {
@@ -249,5 +262,13 @@ impl Table {
             Some(name_table) => name_table.holds(entry),
             None => false,
         }
+    }
+
+    /// Returns whether no entry waits or holds, in time linear in the number of names. It does not allocate.
+    pub fn is_idle(&self) -> bool
+        ensures idle { result ≡ is_idle self.now }
+        ensures exclusive { IsConflictFree self.now.holding }
+    {
+        are_idle(&self.name_tables)
     }
 }
