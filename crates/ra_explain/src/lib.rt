@@ -12,6 +12,7 @@ pub use frame_notes::hexadecimal::{digits_note, push_digits_fault};
 pub use frame_notes::unanswered::{Unanswered, unanswered_note};
 pub use note_parts::{push_name_and_mode, push_number_in, push_numbered};
 pub use trace_notes::blockers::{MAX_CLIENTS, TellsBlocker, push_blockers, want_text};
+pub use trace_notes::kept_marks::KeptMarks;
 pub use trace_notes::line_cause::{LineCause, line_note};
 pub use trace_notes::open_request::{OpenRequest, Reached, Stage};
 pub use trace_notes::open_requests::{OpenRequests, Sought};

@@ -2,6 +2,7 @@
 pub mod blocked_requests;
 pub mod blockers;
 pub mod due_mark;
+pub mod kept_marks;
 pub mod line_cause;
 pub mod line_counts;
 pub mod line_fault;

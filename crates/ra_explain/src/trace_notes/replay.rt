@@ -47,17 +47,9 @@ pub struct Replay {
 }
 
 impl Replay {
-    /// Reads these lines for what they say of the wrong line after them, `subject`, which is empty if the text ends
-    /// there. The cost is linear in them.
-    pub fn of(alloc: Global, lines: &[u8], subject: &[u8]) -> Replay {
-        let (mark, message) = match &Line::parse(subject) {
-            Some(Line::Marked(mark)) => (Some(*mark), None),
-            Some(Line::Stepped(Step::Deliver(sent) | Step::Lose(sent) | Step::Repeat(sent))) => {
-                (None, Some(*sent))
-            }
-            _ => (None, None),
-        };
-        let mut replay = Replay {
+    /// Makes what no lines say of a wrong line with this mark or this message.
+    pub fn new(alloc: Global, mark: Option<Mark>, message: Option<Message>) -> Replay {
+        Replay {
             nodes: None,
             step_at: 0,
             open: OpenRequests::new(alloc),
@@ -70,7 +62,20 @@ impl Replay {
             message,
             taken: None,
             came: None,
+        }
+    }
+
+    /// Reads these lines for what they say of the wrong line after them, `subject`, which is empty if the text ends
+    /// there. The cost is linear in them.
+    pub fn of(alloc: Global, lines: &[u8], subject: &[u8]) -> Replay {
+        let (mark, message) = match &Line::parse(subject) {
+            Some(Line::Marked(mark)) => (Some(*mark), None),
+            Some(Line::Stepped(Step::Deliver(sent) | Step::Lose(sent) | Step::Repeat(sent))) => {
+                (None, Some(*sent))
+            }
+            _ => (None, None),
         };
+        let mut replay = Replay::new(alloc, mark, message);
         let mut rest = lines;
         for number in 1..u64::MAX {
             let (line, Some(after)) = cut(rest, b'\n') else {

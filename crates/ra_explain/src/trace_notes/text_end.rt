@@ -79,6 +79,21 @@ fn push_counts(note: &mut Note, left: &LeftOver, is_trace: bool) {
     push_count(note, joint, left.holding, " request", "holding");
 }
 
+/// Adds the first clients at each stage, or that there was no memory for them. `want` is what is said of one that waits
+/// although no other client is in its way.
+fn push_stages(note: &mut Note, open: &OpenRequests, want: &str) {
+    if open.is_whole {
+        let waiting = push_clients(note, open, Stage::Waits, 0, want);
+        let queued = push_clients(note, open, Stage::Queued, waiting, "");
+        push_clients(note, open, Stage::Holds, queued, "");
+    } else {
+        note.push("; there was no room to name them");
+    }
+}
+
+/// What is said of a request in a mark log that waits although no other one is in its way.
+const UNBLOCKED: &str = ": no client blocks it";
+
 /// Adds what is left at the end of a text: how much, and the first clients at each stage, or that there was no memory
 /// for them.
 fn push_end(alloc: Global, note: &mut Note, text: &[u8], left: &LeftOver) {
@@ -87,16 +102,24 @@ fn push_end(alloc: Global, note: &mut Note, text: &[u8], left: &LeftOver) {
     let want = if is_trace {
         want_text(u128::from(left.under_way), u128::from(left.lost))
     } else {
-        ": no client blocks it"
+        UNBLOCKED
     };
     let replay = Replay::of(alloc, text, b"");
-    if replay.open.is_whole {
-        let open = &replay.open;
-        let waiting = push_clients(note, open, Stage::Waits, 0, want);
-        let queued = push_clients(note, open, Stage::Queued, waiting, "");
-        push_clients(note, open, Stage::Holds, queued, "");
-    } else {
-        note.push("; there was no room to name them");
+    push_stages(note, &replay.open, want);
+}
+
+/// Adds what is left at the end of a mark log after which these requests wait and hold, if there are any.
+pub fn push_log_end(note: &mut Note, open: &OpenRequests) {
+    let left = LeftOver {
+        under_way: 0,
+        lost: 0,
+        waiting: open.count_of(&Sought::At(Stage::Waits)),
+        queued: 0,
+        holding: open.count_of(&Sought::At(Stage::Holds)),
+    };
+    if left.waiting > 0 || left.holding > 0 {
+        push_counts(note, &left, false);
+        push_stages(note, open, UNBLOCKED);
     }
 }
 
