@@ -44,11 +44,13 @@ module _ {F : Type 0} {g : Ghosts F} where
     pub faults : faults_of book ≡ g.faults file
 
   -- a call of a book: these events happen, or if it fails, those before a crash
-  pub record Does (old new : Book F g) (result : Result (Unit {0}) FileError) (all before : List Event) (error : FileError) : Type 0 where
+  pub record Does (old new : Book F g) (result : Result (Unit {0}) FileError) (all before : List Event) (error : FileError)
+      : Type 0 where
     -- after a failure each call fails in the same way, and the book is unchanged
     pub refused : (e : FileError) → failure_of old ≡ Some e → (result ≡ Err e) × (new ≡ old)
     pub ok : OnOk result ((failure_of new ≡ None) × (state_of new ≡ steps all (state_of old)))
-    pub err : failure_of old ≡ None → IfErr result (λ e. (e ≡ error) × (failure_of new ≡ Some e) × (faults_of old < faults_of new)
+    pub err : failure_of old ≡ None → IfErr result (λ e.
+        (e ≡ error) × (failure_of new ≡ Some e) × (faults_of old < faults_of new)
         × (size : ℕ) × (state_of new ≡ steps (Crashes size ∷ before) (state_of old)))
     pub past : failure_of old ≡ None → past_of new ≡ contents_of old ∷ past_of old
 
@@ -56,5 +58,7 @@ module _ {F : Type 0} {g : Ghosts F} where
 abbrev pub FailsToOpen : {F : Type 0} → Ghosts F → F → FileError × F → Type 0
 FailsToOpen g file (error, left) =
     (((error ≡ Read) ⊎ (error ≡ Memory)) × (g.contents left ≡ g.contents file) × (g.past left ≡ g.past file))
-    ⊎ ((error ≡ Disk) × ((size : ℕ) × (Closed (g.contents left) ≡ steps (Crashes size ∷ Cuts ∷ []) (Closed (g.contents file))))
-    × ((g.past left ≡ g.contents file ∷ g.past file) ⊎ (g.past left ≡ cuts_torn (g.contents file) ∷ g.contents file ∷ g.past file)))
+    ⊎ ((error ≡ Disk)
+    × ((size : ℕ) × (Closed (g.contents left) ≡ steps (Crashes size ∷ Cuts ∷ []) (Closed (g.contents file))))
+    × ((g.past left ≡ g.contents file ∷ g.past file)
+    ⊎ (g.past left ≡ cuts_torn (g.contents file) ∷ g.contents file ∷ g.past file)))
