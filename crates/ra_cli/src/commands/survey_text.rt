@@ -11,7 +11,8 @@ use std::alloc::Global;
 
 /// Adds a line of a word, a number, a text and another number.
 fn push_row(text: &mut Draft, word: &str, first: u128, between: &str, second: u128)
-    ensures { Adds text.old (word.now ++ field (decimal first) ++ between.now ++ field (decimal second) ++ codes "\n") text.new }
+    ensures { Adds text.old
+        (word.now ++ field (decimal first) ++ between.now ++ field (decimal second) ++ codes "\n") text.new }
 {
     text.push(word);
     text.push_number(first);
