@@ -1,5 +1,5 @@
 pub mod Clocks
-mod Histories
+pub mod Histories
 mod Kept
 mod Running
 mod Endings
