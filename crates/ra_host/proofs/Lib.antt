@@ -7,3 +7,5 @@ pub mod Pairs
 mod Coded
 mod HostBooks
 mod HostLaws
+mod Grants
+mod Held

@@ -83,7 +83,7 @@ module _ (text : Frame → List ℕ) (laws : BookLaws) (n start : ℕ) where
   abbrev pub AreSound : Hosts → Type 0
   AreSound s = (i : ℕ) → 1 ≤ i → i ≤ n → IsSound n start i (s.host i)
 
-  sound_step : (old new : Hosts) (i : ℕ) (e : Event) → 1 ≤ i → i ≤ n → AreSound old → Step old i e new → AreSound new
+  pub sound_step : (old new : Hosts) (i : ℕ) (e : Event) → 1 ≤ i → i ≤ n → AreSound old → Step old i e new → AreSound new
   sound_step old new i e first last sound is k low high =
       elim (cases_eq k i) [
         | inl same ↦

@@ -1,16 +1,14 @@
 -- What holds of each host in every state: its book is a history of its node, and no frame in it is flagged lost.
-use Rattle.std.proofs.Common.{◌≡◌, inl, inr, ℕ, ◌≤◌, ◌^◌, Bool, true, false, ◌&&◌, ◌==◌, Option, Some, None, cond, List, [], ◌∷◌, ◌++◌, length, take, max, append_assoc, refl, sym, ap, ◌∙◌, subst, arith}
+use Rattle.std.proofs.Common.{◌≡◌, inl, inr, ℕ, ◌≤◌, ◌^◌, Bool, true, false, Option, Some, None, cond, List, [], ◌∷◌, ◌++◌, length, take, max, append_assoc, refl, sym, ap, ◌∙◌, subst, arith}
 use Rattle.std.specs.Prelude.{All, nat_le}
 use Rattle.std.specs.List.{slice_get}
-use Rattle.std.proofs.lemmas.Bool.{and_parts, cond_both, eqb-true}
+use Rattle.std.proofs.lemmas.Bool.{cond_both}
 use Rattle.std.proofs.lemmas.List.{length-take, length_push}
 use Rattle.std.proofs.lemmas.List.Elements.{All-append, All-filter, All-map, All-nil}
 use Rattle.ra_stamp.specs.NodeId.{IsNodeNumber}
 use Rattle.ra_stamp.specs.declared.entry.Mark.{Mark}
 use Rattle.ra_stamp.specs.declared.message.Message.{Message as NodeMessage}
-use Rattle.ra_stamp.specs.Message.{from_of, to_of}
 use Rattle.ra_frame.specs.declared.frame.Frame.{Frame as BookFrame}
-use Rattle.ra_automaton.specs.State.{IsOtherNode}
 use Rattle.ra_node.specs.Node.{NodeState, opening_node}
 use Rattle.ra_node.specs.Events.{NodeEvent, IsForThisNode}
 use Rattle.ra_link.specs.declared.message.Message.{Message}
@@ -21,10 +19,10 @@ use Rattle.ra_book.specs.declared.book.event.BookKind.{BookKind}
 use Rattle.ra_book.specs.declared.book.event.BookKind.TheVariants as kinds
 use Rattle.ra_book.specs.declared.book.sent.Sent.{Sent}
 use Rattle.ra_book.specs.History.{IsHistory, node_event, clock_after, clock_of, frames_at}
-use Rattle.ra_book.specs.Book.{BookState, IsWhole, HasHistory, HasClock, Adds, whole_events, whole_sent, with_event, next_clock, as_sent}
+use Rattle.ra_book.specs.Book.{BookState, IsWhole, HasHistory, HasClock, Adds, whole_events, whole_sent, with_event, next_clock, as_sent, LeadsTo}
 use Rattle.ra_book.specs.Cut.{first_of}
 use Rattle.ra_book.specs.Pairs.{AreFirstOf, sent_to, come_from}
-use Rattle.ra_host.specs.Host.{Host, new_host, IsOther, ends, crashes, puts_back, linked, Happens, IsOwn, is_taken}
+use Rattle.ra_host.specs.Host.{Host, new_host, IsOther, ends, crashes, puts_back, linked, Happens, is_taken}
 use Rattle.ra_host.specs.Host.{Replays as ReplaysBook}
 use Rattle.ra_host.specs.Hosts.{Packet, Event, Turn, TakesOrNot, TakesIfFrame, Hears, HearsIfSaid, Acts, Rests, TurnsIf, Turns}
 use Rattle.ra_host.specs.Hosts.Event.{Start, Connects, Comes, Replays, Does, Syncs, Says_hello, Says_ack, Says_old, Says_frame, Crashes, Put_back}
@@ -53,41 +51,29 @@ pub record IsSound (n start i : ℕ) (h : Host) : Type 0 where
   pub kept : h.kept ≤ length h.book.events
   pub none_lost : All (λ s. s.lost ≡ false) h.book.sent
 
--- a frame that is taken is for this host's node
-pub is_for_it : (h : Host) (j start number : ℕ) (frame : BookFrame) → IsOther h j → is_taken h j start number frame ≡ true
-    → IsForThisNode (opening_node h.book.me h.book.nodes h.book.start) (node_event (kinds.Receive frame))
-is_for_it h j start number frame other taken =
-    let names = (and_parts (link.is_next (h.links j) start number) (from_of frame.message == j && to_of frame.message == h.book.me) taken).1 in
-    let parts = and_parts (from_of frame.message == j) (to_of frame.message == h.book.me) names in
-    let from : from_of frame.message ≡ j = eqb-true (from_of frame.message) j parts.0 in
-    record { to = eqb-true (to_of frame.message) h.book.me parts.1; from = subst (IsOtherNode h.book.me h.book.nodes) (sym from) other }
-
--- what no frame brings is for this host's node
-pub own_is_for_it : (book : BookState) (kind : BookKind) → IsOwn kind → IsForThisNode (opening_node book.me book.nodes book.start) (node_event kind)
-own_is_for_it book (kinds.Ask client name mode) own = tt
-own_is_for_it book (kinds.Leave client name) own = tt
-own_is_for_it book (kinds.Cancel client name) own = tt
-own_is_for_it book (kinds.Receive frame) own = absurd own
-own_is_for_it book kinds.Forget own = tt
-
 module _ (laws : BookLaws) where
   -- a book with one more event is a history
-  adds_on : (book new : BookState) (kind : BookKind) (frames : List BookFrame) (marks : List Mark) → HasHistory book
-      → IsForThisNode (opening_node book.me book.nodes book.start) (node_event kind) → HasClock book kind → Adds book kind frames marks new → HasHistory new
-  adds_on book new kind frames marks history for_it has_clock adds =
+  pub adds_leads : (book new : BookState) (kind : BookKind) (frames : List BookFrame) (marks : List Mark)
+      → IsForThisNode (opening_node book.me book.nodes book.start) (node_event kind) → HasClock book kind → (adds : Adds book kind frames marks new) → LeadsTo new adds.after
+  adds_leads book new kind frames marks for_it has_clock adds =
       let clock = next_clock book kind in
       let e : BookEvent = record { clock = clock; kind = kind } in
       let on = laws.event book.me book.nodes book.start (whole_events book) (whole_sent book) adds.before adds.after kind adds.sends marks adds.leads for_it adds.event has_clock in
-      subst HasHistory (sym adds.new_is) (record {
-        count = history.count;
-        member = history.member;
+      subst (λ (b : BookState). LeadsTo b adds.after) (sym adds.new_is)
+      (subst (λ (es : List BookEvent). IsHistory book.me book.nodes book.start es (book.taken.sent ++ (book.sent ++ as_sent frames)) adds.after) (append_assoc book.taken.events book.events (e ∷ []))
+      (subst (λ (ss : List Sent). IsHistory book.me book.nodes book.start ((book.taken.events ++ book.events) ++ e ∷ []) ss adds.after)
+      (append_assoc book.taken.sent book.sent (as_sent (frames_at clock adds.sends))
+      ∙ ap (λ (fs : List BookFrame). book.taken.sent ++ (book.sent ++ as_sent fs)) (sym adds.frames_are)) on))
+
+  pub adds_on : (book new : BookState) (kind : BookKind) (frames : List BookFrame) (marks : List Mark) → HasHistory book
+      → IsForThisNode (opening_node book.me book.nodes book.start) (node_event kind) → HasClock book kind → Adds book kind frames marks new → HasHistory new
+  adds_on book new kind frames marks history for_it has_clock adds =
+      record {
+        count = subst (λ (b : BookState). IsNodeNumber b.nodes) (sym adds.new_is) history.count;
+        member = subst (λ (b : BookState). (1 ≤ b.me) × (b.me ≤ b.nodes)) (sym adds.new_is) history.member;
         node = adds.after;
-        leads =
-            subst (λ (es : List BookEvent). IsHistory book.me book.nodes book.start es (book.taken.sent ++ (book.sent ++ as_sent frames)) adds.after) (append_assoc book.taken.events book.events (e ∷ []))
-            (subst (λ (ss : List Sent). IsHistory book.me book.nodes book.start ((book.taken.events ++ book.events) ++ e ∷ []) ss adds.after)
-            (append_assoc book.taken.sent book.sent (as_sent (frames_at clock adds.sends))
-            ∙ ap (λ (fs : List BookFrame). book.taken.sent ++ (book.sent ++ as_sent fs)) (sym adds.frames_are)) on);
-      })
+        leads = adds_leads book new kind frames marks for_it has_clock adds;
+      }
 
   module _ (n start i : ℕ) where
     -- a host with the same book
@@ -116,8 +102,8 @@ module _ (laws : BookLaws) where
           none_lost = All-filter (λ x. nat_le x.frame.clock (clock_of (take count h.book.events))) (λ x. x.lost ≡ false) h.book.sent s.none_lost;
         })
 
-    pub happens : (h new : Host) (kind : BookKind) → IsForThisNode (opening_node h.book.me h.book.nodes h.book.start) (node_event kind) → Happens h kind new → IsSound n start i h → IsSound n start i new
-    happens h new kind for_it is s =
+    pub happens : (h new : Host) (kind : BookKind) → Happens h kind new → IsSound n start i h → IsSound n start i new
+    happens h new kind is s =
         let book = with_event h.book (next_clock h.book kind) kind is.frames in
         let long = length_push h.book.events (record { clock = next_clock h.book kind; kind = kind }) in
         let kept : new.kept ≡ h.kept = ap (λ (x : Host). x.kept) is.new_is in
@@ -126,7 +112,7 @@ module _ (laws : BookLaws) where
           nodes = s.nodes;
           start_is = s.start_is;
           whole = s.whole;
-          history = subst HasHistory is.adds.new_is (adds_on h.book is.book kind is.frames is.marks s.history for_it is.has_clock is.adds);
+          history = subst HasHistory is.adds.new_is (adds_on h.book is.book kind is.frames is.marks s.history is.for_this_node is.has_clock is.adds);
           kept = omega (arith, s.kept, long);
           none_lost = All-append (λ x. x.lost ≡ false) h.book.sent (as_sent is.frames) s.none_lost
               (All-map (λ x. x.lost ≡ false) (λ frame. record { frame = frame; lost = false }) is.frames (λ k d low. refl));
@@ -154,7 +140,7 @@ module _ (laws : BookLaws) where
           by_test : (b : Bool) → is_taken h j nonce number frame ≡ b → TakesOrNot b h j nonce number frame t.host → IsSound n start i t.host
           by_test true taken takes =
               let before : Host = linked h j (link.hears_frame (h.links j) nonce number) in
-              happens before t.host (kinds.Receive frame) (is_for_it h j nonce number frame other taken) takes (same h before refl s.kept s)
+              happens before t.host (kinds.Receive frame) takes (same h before refl s.kept s)
           by_test false taken passes = subst (IsSound n start i) (sym passes) s
 
       hears : (j : ℕ) → IsOther h j → (message : Message) (frame : Option BookFrame) → Hears h j message frame t → IsSound n start i t.host
@@ -187,7 +173,7 @@ module _ (laws : BookLaws) where
       acts back (Connects j) is = still _ _ is.1 refl s.kept
       acts back (Comes j which) is = hears_if_said j is.0 (slice_get (back j) which) is.1
       acts back Replays is = replays is.0
-      acts back (Does kind) is = happens h t.host kind (own_is_for_it h.book kind is.0) is.1 s
+      acts back (Does kind) is = happens h t.host kind is.1 s
       acts back Syncs is = still _ _ is refl (omega arith)
       acts back (Says_hello j) is = still _ _ is.1 refl s.kept
       acts back (Says_ack j) is = still _ _ is.1 refl s.kept

@@ -8,8 +8,6 @@ use Rattle.std.proofs.lemmas.List.{append-nil, length-map, map-append, take_all}
 use Rattle.std.proofs.lemmas.Option.{slice_get-map}
 use Rattle.ra_stamp.specs.Message.{from_of, to_of}
 use Rattle.ra_frame.specs.declared.frame.Frame.{Frame as BookFrame}
-use Rattle.ra_node.specs.Node.{opening_node}
-use Rattle.ra_node.specs.Events.{IsForThisNode}
 use Rattle.ra_world.proofs.Lists.{filter_hit, filter_miss}
 use Rattle.ra_link.specs.declared.message.Message.{Message}
 use Rattle.ra_link.specs.declared.message.Message.TheVariants.{Hello, Welcome, Frame, Ack, Old}
@@ -19,7 +17,7 @@ use Rattle.ra_link.specs.Pair as pair
 use Rattle.ra_link.specs.Pair.{Event as events}
 use Rattle.ra_book.specs.declared.book.event.BookKind.{BookKind}
 use Rattle.ra_book.specs.declared.book.event.BookKind.TheVariants as kinds
-use Rattle.ra_book.specs.History.{node_event, frames_at}
+use Rattle.ra_book.specs.History.{frames_at}
 use Rattle.ra_book.specs.Book.{BookState, IsWhole, HasHistory, with_event, next_clock}
 use Rattle.ra_book.specs.Cut.{first_of}
 use Rattle.ra_book.specs.Pairs.{sent_to, come_from}
@@ -28,7 +26,7 @@ use Rattle.ra_host.specs.Host.{Replays as ReplaysBook}
 use Rattle.ra_host.specs.Hosts.{Packet, Event, Turn, silent, packets, says, is_put_back, TakesOrNot, TakesIfFrame, Hears, HearsIfSaid, Acts, Rests, TurnsIf, Turns}
 use Rattle.ra_host.specs.Hosts.Event.{Start, Connects, Comes, Replays, Does, Syncs, Says_hello, Says_ack, Says_old, Says_frame, Crashes, Put_back}
 use Rattle.ra_host.specs.Projection.{view_of, text_if_some, packet_of}
-use Rattle.ra_host.proofs.Sound.{BookLaws, IsSound, happens, is_for_it, own_is_for_it}
+use Rattle.ra_host.proofs.Sound.{BookLaws, IsSound, happens}
 use Rattle.ra_host.proofs.Views.{brought, sent_more, come_more, disk_stays, at_link, other_link, at_end, other_end, at_begin, at_sync, at_crash, sends, comes}
 
 -- ---- Events one after the other
@@ -182,14 +180,14 @@ module _ (text : BookFrame → List ℕ) (laws : BookLaws) (n start i : ℕ) (ba
   -- ---- Frames
 
   -- After an event at the node: the view has what it brought and sent.
-  after_event : (h new : Host) (s : IsSound n start i h) (kind : BookKind) → IsForThisNode (opening_node h.book.me h.book.nodes h.book.start) (node_event kind) → (is : Happens h kind new) → (j : ℕ)
+  after_event : (h new : Host) (s : IsSound n start i h) (kind : BookKind) → (is : Happens h kind new) → (j : ℕ)
       → having_made (record (view_of text h j) { taken = map text (come_from j h.book) ++ map text (brought j kind) }) (map text (frames_to j is.frames)) ≡ view_of text new j
-  after_event h new s kind for_it is j =
+  after_event h new s kind is j =
       let clock = next_clock h.book kind in
       let book = with_event h.book clock kind is.frames in
       let next : Host = record h { book = book; links = makes_frames h.links is.frames } in
       let next_is : new ≡ next = is.new_is ∙ ap (λ (b : BookState). record h { book = b; links = makes_frames h.links is.frames }) is.adds.new_is in
-      let after = happens laws n start i h new kind for_it is s in
+      let after = happens laws n start i h new kind is s in
       let named : BookState → Type 0 = λ b. first_of h.kept h.book ≡ first_of h.kept b in
       let event = with_event h.book clock kind (frames_at clock is.adds.sends) in
       let same : new.book ≡ event = ap (λ (x : Host). x.book) next_is ∙ ap (with_event h.book clock kind) is.adds.frames_are in
@@ -207,8 +205,7 @@ module _ (text : BookFrame → List ℕ) (laws : BookLaws) (n start i : ℕ) (ba
       })
       ∙ ap (λ (x : Host). view_of text x j) (sym next_is)
 
-  module _ (h new : Host) (s : IsSound n start i h) (up : h.up ≡ true) (kind : BookKind)
-      (for_it : IsForThisNode (opening_node h.book.me h.book.nodes h.book.start) (node_event kind)) (is : Happens h kind new) (j : ℕ) (other : IsOther h j) where
+  module _ (h new : Host) (s : IsSound n start i h) (up : h.up ≡ true) (kind : BookKind) (is : Happens h kind new) (j : ℕ) (other : IsOther h j) where
     -- what the event brought is taken before
     event_goes : (heard : List pair.Packet) → Goes heard (record (view_of text h j) { taken = map text (come_from j h.book) ++ map text (brought j kind) }) (pair.silent (view_of text new j))
     event_goes heard =
@@ -216,7 +213,7 @@ module _ (text : BookFrame → List ℕ) (laws : BookLaws) (n start i : ℕ) (ba
         let texts = map text (frames_to j is.frames) in
         let long = length-map (frames_to j is.frames) text in
         let room = is.has_numbers j other in
-        subst (λ (z : pair.Host). Goes heard x (pair.silent z)) (after_event h new s kind for_it is j)
+        subst (λ (z : pair.Host). Goes heard x (pair.silent z)) (after_event h new s kind is j)
         (makes_all heard texts x up (is.ready j other) (omega (arith, long, room)))
 
     -- the event brings nothing from host j
@@ -247,7 +244,6 @@ module _ (text : BookFrame → List ℕ) (laws : BookLaws) (n start i : ℕ) (ba
     takes_frame k nonce number which frame from taken comes takes j other =
         let l = link.hears_frame (h.links k) nonce number in
         let before : Host = linked h k l in
-        let for_it = is_for_it h k nonce number frame from taken in
         let both = and_parts (link.is_next (h.links k) nonce number) (from_of frame.message == k && to_of frame.message == h.book.me) taken in
         let sound : IsSound n start i before = record { me = s.me; nodes = s.nodes; start_is = s.start_is; whole = s.whole; history = s.history; kept = s.kept; none_lost = s.none_lost } in
         elim (cases_eq j k) [
@@ -262,13 +258,13 @@ module _ (text : BookFrame → List ℕ) (laws : BookLaws) (n start i : ℕ) (ba
               first_then (map (packet_of text) (back k)) x y (view_of text t.host k) (events.Comes which)
               (if_up (map (packet_of text) (back k)) x up (events.Comes which) ∙ comes ∙ ap (λ b. cond b (pair.silent y) (pair.silent x)) both.0)
               (subst (λ (z : pair.Host). Goes (map (packet_of text) (back k)) z (pair.silent (view_of text t.host k))) y_is
-              (event_goes before t.host sound up (kinds.Receive frame) for_it takes k from (map (packet_of text) (back k)))))
+              (event_goes before t.host sound up (kinds.Receive frame) takes k from (map (packet_of text) (back k)))))
           | inr differ ↦
               let miss : brought j (kinds.Receive frame) ≡ [] =
               filter_miss (λ f. from_of f.message == j) frame []
               (ne_eqb (from_of frame.message) j (λ e. differ (sym e ∙ eqb-true (from_of frame.message) k (and_parts (from_of frame.message == k) (to_of frame.message == h.book.me) both.1).0))) in
               subst (λ (x : pair.Host). Goes (map (packet_of text) (back j)) x (pair.silent (view_of text t.host j))) (other_link text h k l j differ)
-              (brings_none before t.host sound up (kinds.Receive frame) for_it takes j other miss)
+              (brings_none before t.host sound up (kinds.Receive frame) takes j other miss)
         ]
 
     hears_frame : (k nonce number which : ℕ) → IsOther h k → (o : Option BookFrame)
@@ -353,7 +349,7 @@ module _ (text : BookFrame → List ℕ) (laws : BookLaws) (n start i : ℕ) (ba
     acts_for Replays is = replays is.0 is.1
     acts_for (Does kind) is =
         at (silent t.host) is.2
-        (λ j other. brings_none h t.host s up kind (own_is_for_it h.book kind is.0) is.1 j other (own_brings_none j kind is.0))
+        (λ j other. brings_none h t.host s up kind is.1 j other (own_brings_none j kind is.0))
     acts_for Syncs is =
         at (silent (syncs_book h)) is
         (λ j other. acts_one text back h up j events.Syncs (pair.silent (view_of text (syncs_book h) j)) (ap pair.silent (at_sync text laws n start i h s j)))

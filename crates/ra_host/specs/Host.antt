@@ -6,10 +6,13 @@ use Rattle.ra_stamp.specs.declared.entry.Mark.{Mark}
 use Rattle.ra_stamp.specs.Message.{from_of, to_of}
 use Rattle.ra_frame.specs.declared.frame.Frame.{Frame}
 use Rattle.ra_automaton.specs.State.{IsOtherNode}
+use Rattle.ra_node.specs.Node.{opening_node}
+use Rattle.ra_node.specs.Events.{IsForThisNode}
 use Rattle.ra_link.specs.declared.link.Link.{Link}
 use Rattle.ra_link.specs.Link as link
 use Rattle.ra_book.specs.declared.book.event.BookKind.{BookKind}
 use Rattle.ra_book.specs.declared.book.event.BookKind.TheVariants.{Ask, Leave, Cancel, Receive, Forget}
+use Rattle.ra_book.specs.History.{node_event}
 use Rattle.ra_book.specs.Book.{BookState, opening_book, HasClock, Adds}
 use Rattle.ra_book.specs.Cut.{first_of}
 use Rattle.ra_book.specs.Pairs.{sent_to, come_from}
@@ -108,10 +111,11 @@ frames_to j frames = filter (λ f. to_of f.message == j) frames
 abbrev pub makes_frames : (ℕ → Link) → List Frame → ℕ → Link
 makes_frames links frames j = record (links j) { made = (links j).made + length (frames_to j frames) }
 
--- An event of this kind happens at its node, and its book has it, with the frames that the node sends. The host is
--- ready, and a clock is left for the event, and a number for each frame.
+-- An event of this kind, which is for its node, happens there, and its book has it, with the frames that the node
+-- sends. The host is ready, and a clock is left for the event, and a number for each frame.
 pub record Happens (h : Host) (kind : BookKind) (new : Host) : Type 0 where
   pub ready : (j : ℕ) → IsOther h j → (h.links j).ready ≡ true
+  pub for_this_node : IsForThisNode (opening_node h.book.me h.book.nodes h.book.start) (node_event kind)
   pub has_clock : HasClock h.book kind
   pub book : BookState
   pub frames : List Frame

@@ -2,3 +2,4 @@ pub mod Linked
 pub mod Host
 pub mod Hosts
 pub mod Projection
+pub mod Grants

@@ -1,4 +1,5 @@
 //! What is true of hosts. Each function does nothing, and its contract is the law.
+pub mod grants;
 pub mod hosts;
 
 ghost use Rattle.std.specs.Prelude.{ℕ, List, All};

@@ -5,6 +5,9 @@
 
 mod laws;
 
+pub use laws::grants::{
+    clients_of_hosts_never_hold_in_conflict, what_is_granted_is_held_until_its_client_leaves,
+};
 pub use laws::hosts::{
     books_fit_once_all_hosts_were_ready, books_of_hosts_fit, each_two_hosts_are_a_pair,
     hosts_never_hold_in_conflict, hosts_with_whole_books_are_not_accused,
