@@ -1,0 +1,5 @@
+pub mod Nonces
+pub mod Takes
+pub mod Frames
+pub mod Messages
+pub mod HostLines

@@ -1,0 +1,2 @@
+pub mod HostText
+pub mod Fields
