@@ -51,7 +51,7 @@ module _ (laws : BookLaws) (n start : ℕ) (count : IsNodeNumber n) where
       runs_lead text laws n start i j two.first.0 two.first.1 two.second.0 two.second.1 two.apart later middle s (sound_at before middle reaches) whole lead
 
   -- the other host, as this one sees it
-  is_other : (events : List (ℕ × Event)) (s : Hosts) → Reaches n start events s → (i j : ℕ) → AreTwo n i j → IsOther (s.host i) j
+  pub is_other : (events : List (ℕ × Event)) (s : Hosts) → Reaches n start events s → (i j : ℕ) → AreTwo n i j → IsOther (s.host i) j
   is_other events s reaches i j two =
       let sound = sound_at events s reaches i two.first.0 two.first.1 in
       record { first = two.second.0; last = subst (λ (m : ℕ). j ≤ m) (sym sound.nodes) two.second.1; other = λ e. two.apart (sym (e ∙ sound.me)) }

@@ -9,3 +9,5 @@ mod HostBooks
 mod HostLaws
 mod Grants
 mod Held
+mod Found
+mod ReadyHosts

@@ -1,6 +1,6 @@
 //! What is true of n hosts in every state, whatever the network and the crashes do. Each function does nothing, and its
 //! contract is the law.
-ghost use Rattle.std.specs.Prelude.{◌≡◌, ◌≢◌, ◌≤◌, ℕ, List, Some, false, All, Contains};
+ghost use Rattle.std.specs.Prelude.{◌≡◌, ◌<◌, ℕ, List, Some, true, false, All, length};
 ghost use Rattle.ra_stamp.specs.NodeId.{IsNodeNumber};
 ghost use Rattle.ra_stamp.specs.Mode.{Conflict};
 ghost use Rattle.ra_stamp.specs.declared.entry.Entry.{Entry};
@@ -13,10 +13,11 @@ ghost use Rattle.ra_link.specs.Pair.{Who, after};
 ghost use Rattle.ra_link.specs.Pair.{Event as PairEvent};
 ghost use Rattle.ra_link.specs.PutBack.{Move as PairMove, after_moves, is_put_back};
 ghost use Rattle.ra_book.specs.Book.{HasHistory, LeadsTo};
-ghost use Rattle.ra_book.specs.Pairs.{AllHasCome};
+ghost use Rattle.ra_book.specs.Pairs.{AllHasCome, sent_to, come_from};
 ghost use Rattle.ra_book.specs.Settled.{IsCluster, IsSettledRun, BooksFit};
-ghost use Rattle.ra_host.specs.Hosts.{Event, Hosts, Lead, Reaches, AreTwo, AreWhole, puts_back_at};
-ghost use Rattle.ra_host.specs.Hosts.{books_of, disks_of, AreReady, AllIsAcknowledged};
+ghost use Rattle.ra_host.specs.Host.{Host, Replays};
+ghost use Rattle.ra_host.specs.Hosts.{Event, Hosts, Lead, Reaches, Step, AreTwo, AreWhole, puts_back_at};
+ghost use Rattle.ra_host.specs.Hosts.{books_of, disks_of, IsReady, AreReady, AllIsAcknowledged};
 ghost use Rattle.ra_host.specs.Projection.{pair_of};
 
 use ra_book::{
@@ -24,7 +25,8 @@ use ra_book::{
     paired_books_fit, what_has_not_come_is_under_way,
 };
 use ra_link::{
-    a_host_that_was_ready_lacks_nothing, a_host_whose_own_book_is_whole_is_not_accused,
+    a_book_that_lacks_taken_frames_is_found_out, a_host_that_was_ready_lacks_nothing,
+    a_host_whose_own_book_is_whole_is_not_accused, a_ready_host_is_not_accused,
     a_ready_host_lacks_nothing, frames_are_taken_once_and_in_order,
 };
 
@@ -94,6 +96,21 @@ pub fn books_fit_once_all_hosts_were_ready()
     paired_books_fit();
 }
 
+/// A book that was put back is found out, or it changes nothing: if another host has taken more of its frames than a
+/// book has, then its host, once it has an ack of that one, can only end as it replays.
+pub fn hosts_that_lack_taken_frames_end_at_their_replay()
+    ensures { (n start : ℕ) (events : List (ℕ × Event)) (s : Hosts) (i j : ℕ) (new : Host) → IsNodeNumber n
+        → Reaches n start events s → AreTwo n i j → (s.host i).up ≡ true
+        → ((s.host i).links j).confirmed ≡ true → ((s.host i).links j).ready ≡ false
+        → length (sent_to j (s.host i).book) < length (come_from i (s.host j).book)
+        → Replays (s.host i) new → new.up ≡ false }
+{
+    // For the proof: each two hosts are a pair, and what links say of it.
+    histories_go_on();
+    books_can_be_cut();
+    a_book_that_lacks_taken_frames_is_found_out();
+}
+
 /// Nothing is forgotten, even if books were put back: if all hosts are up and ready, and have acknowledged all frames
 /// that were made for them, then all that was sent has come, by what is on the disks. So each run of it is quiet at its
 /// end.
@@ -125,6 +142,19 @@ pub fn hosts_with_whole_books_are_not_accused()
     histories_go_on();
     books_can_be_cut();
     a_host_whose_own_book_is_whole_is_not_accused();
+}
+
+/// A ready host never ends by itself, whatever comes, even if books are put back. So a host that ends by itself has
+/// neither said nor taken a frame since it started.
+pub fn no_ready_host_is_accused()
+    ensures { (n start : ℕ) (events : List (ℕ × Event)) (old new : Hosts) (i j : ℕ) (event : Event)
+        → IsNodeNumber n → Reaches n start events old → AreTwo n i j → IsReady (old.host i)
+        → Step old i event new → (new.host i).accused j ≡ false }
+{
+    // For the proof: each two hosts are a pair, and what links say of it.
+    histories_go_on();
+    books_can_be_cut();
+    a_ready_host_is_not_accused();
 }
 
 /// No two hosts hold a name in modes that conflict, by the nodes to which their books lead: if no book is put back, in
