@@ -3,3 +3,5 @@ pub mod Takes
 pub mod Frames
 pub mod Messages
 pub mod HostLines
+pub mod Clients
+pub mod Inputs

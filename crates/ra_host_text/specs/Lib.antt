@@ -1,2 +1,7 @@
 pub mod HostText
 pub mod Fields
+pub mod Wait
+pub mod ClientText
+pub mod ClientFields
+pub mod LineText
+pub mod LineFields

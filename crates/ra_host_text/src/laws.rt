@@ -1,6 +1,10 @@
 //! What is true of every text. Each function does nothing, and its contract is the law.
 ghost use Rattle.std.specs.Prelude.{◌≡◌, ◌≢◌, ℕ, List, All};
+ghost use Rattle.ra_host_text.specs.ClientText.{IsAnswer, IsClientLine};
 ghost use Rattle.ra_host_text.specs.HostText.{IsHeard, IsHostLine, IsMessage, IsUnheard};
+ghost use Rattle.ra_host_text.specs.LineText.{Input, IsInput};
+ghost use Rattle.ra_host_text.specs.declared.answer.Answer.{Answer};
+ghost use Rattle.ra_host_text.specs.declared.client_line.ClientLine.{ClientLine};
 ghost use Rattle.ra_host_text.specs.declared.host_line.HostLine.{HostLine};
 ghost use Rattle.ra_host_text.specs.declared.host_line.message_fault.MessageFault.{MessageFault};
 ghost use Rattle.ra_host_text.specs.declared.host_message.HostMessage.{HostMessage};
@@ -22,3 +26,13 @@ pub fn host_lines_are_read_in_one_way()
     // For the proof: a text is one frame's.
     round_trip();
 }
+
+/// No line says two things to a host: neither one of a client, nor one of its own process. No line is two answers.
+pub fn lines_are_read_in_one_way()
+    ensures client { (line : List ℕ) (a b : ClientLine) → IsClientLine line a → IsClientLine line b → a ≡ b }
+    ensures answer { (line : List ℕ) (a b : Answer) → IsAnswer line a → IsAnswer line b → a ≡ b }
+    ensures input { (line : List ℕ) (a b : Input) → IsInput line a → IsInput line b → a ≡ b }
+    // What clients say and what they are answered has no line feed.
+    ensures client_feed { (line : List ℕ) (said : ClientLine) → IsClientLine line said → All (λ byte. byte ≢ 10) line }
+    ensures answer_feed { (line : List ℕ) (answer : Answer) → IsAnswer line answer → All (λ byte. byte ≢ 10) line }
+{}

@@ -1,0 +1,5 @@
+use Rattle.ra_text.proofs.Drafts.{adds_both}
+use Rattle.ra_host_text.proofs.output_line.push_close_line.Goals as goal
+
+pub returns : goal.returns
+returns c = adds_both c.push_client.ensures c.end_line.ensures
