@@ -1,5 +1,5 @@
 -- What clients say is read as it is written, and so are answers.
-use Rattle.std.proofs.Common.{◌≡◌, ◌<◌, ◌≤◌, ◌^◌, ◌==◌, ℕ, true, false, nat_le, List, [], ◌∷◌, ◌++◌, Option, Some, None, option_map, refl, sym, ap, subst, ◌∙◌, codes, inl, inr, arith, lit<, append_assoc, append-nil}
+use Rattle.std.proofs.Common.{◌≡◌, ◌<◌, ◌^◌, ◌==◌, ℕ, false, nat_le, List, ◌∷◌, ◌++◌, Option, Some, None, option_map, refl, sym, ap, subst, ◌∙◌, codes, inl, inr, arith, lit<, append_assoc, append-nil}
 use Rattle.std.specs.Prelude.{All, MatchOption, ◌≢◌, ◌⊎◌, if◌then◌else◌, option_and_then}
 use Rattle.std.specs.Fmt.{decimal}
 use Rattle.std.specs.Str.{bytes_eq}
@@ -13,9 +13,9 @@ use Rattle.ra_stamp.specs.Name.{IsName}
 use Rattle.ra_stamp.specs.NodeId.{IsNodeNumber}
 use Rattle.ra_stamp.specs.declared.mode.Mode.{Mode}
 use Rattle.ra_text.specs.Lines.{field}
-use Rattle.ra_trace.specs.Forms.{cut, fields, mode_of, name_of, node_of, rest_after, start_of}
-use Rattle.ra_trace.proofs.Cuts.{IsFree, cases_Option, cut-append, cut-free, cut-only, mapped, rest_after-append, rest_after-only}
-use Rattle.ra_trace.proofs.Spelled.{Reads, ReadsField, reads_fields, reads_mode, reads_name, reads_node, reads_start}
+use Rattle.ra_trace.specs.Forms.{cut, fields, mode_of, name_of, rest_after, start_of}
+use Rattle.ra_trace.proofs.Cuts.{IsFree, cut-append, cut-free, cut-only, mapped, rest_after-append, rest_after-only}
+use Rattle.ra_trace.proofs.Spelled.{Reads, reads_fields, reads_mode, reads_name, reads_node, reads_start}
 use Rattle.ra_host_text.specs.declared.answer.Answer.{Answer}
 use Rattle.ra_host_text.specs.declared.answer.Answer.TheVariants.{Granted, Timeout, Unlocked, Refused}
 use Rattle.ra_host_text.specs.declared.answer.Refusal.{Refusal}

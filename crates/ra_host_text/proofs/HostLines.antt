@@ -1,14 +1,12 @@
 -- Lines of hosts are read as they are written.
-use Rattle.std.proofs.Common.{◌≡◌, ◌≢◌, ◌==◌, ◌⊎◌, inl, inr, ℕ, false, List, ◌∷◌, ◌++◌, Option, Some, None, refl, sym, ap, subst, ◌∙◌, arith, lit<}
+use Rattle.std.proofs.Common.{◌≡◌, ◌≢◌, ◌==◌, ◌⊎◌, inl, inr, ℕ, false, List, ◌∷◌, ◌++◌, Some, None, refl, sym, ap, subst, ◌∙◌, arith}
 use Rattle.std.specs.Prelude.{All}
 use Rattle.std.specs.Fmt.{decimal}
 use Rattle.std.proofs.lemmas.Bool.Decides.{nat_tests}
 use Rattle.std.proofs.lemmas.List.Elements.{All-append, All-cons, All-weaker}
 use Rattle.std.proofs.lemmas.Option.{same_Some}
-use Rattle.ra_stamp.specs.Name.{IsName}
 use Rattle.ra_stamp.specs.NodeId.{IsNodeNumber}
 use Rattle.ra_frame.specs.declared.frame.Frame.{Frame}
-use Rattle.ra_text.specs.Lines.{field}
 use Rattle.ra_trace.proofs.Cuts.{IsFree}
 use Rattle.ra_trace.proofs.Spelled.{reads_name, reads_node}
 use Rattle.ra_host_text.specs.declared.host_line.HostLine.{HostLine}

@@ -1,5 +1,5 @@
 -- The lines that a host reads are read as they are spelled.
-use Rattle.std.proofs.Common.{◌≡◌, ◌==◌, ℕ, true, false, List, ◌∷◌, ◌++◌, Option, Some, None, option_map, refl, sym, ap, subst, ◌∙◌, codes, inl, inr, lit<}
+use Rattle.std.proofs.Common.{◌≡◌, ℕ, List, ◌∷◌, ◌++◌, Option, Some, None, option_map, refl, sym, ap, subst, ◌∙◌, codes, inl, inr, lit<}
 use Rattle.std.specs.Prelude.{MatchOption}
 use Rattle.std.specs.Fmt.{decimal}
 use Rattle.std.specs.Str.{bytes_eq}
@@ -7,12 +7,11 @@ use Rattle.std.proofs.lemmas.Bool.{cases_Bool}
 use Rattle.std.proofs.lemmas.Option.{same_Some}
 use Rattle.std.proofs.lemmas.Slice.Eq.{bytes_eq-Decides}
 use Rattle.ra_stamp.specs.NodeId.{IsNodeNumber}
-use Rattle.ra_text.specs.Lines.{field}
 use Rattle.ra_trace.specs.Forms.{before, cut, node_of, start_of}
 use Rattle.ra_trace.proofs.Cuts.{IsFree, cut-append, cut-only, mapped}
 use Rattle.ra_trace.proofs.Spelled.{reads_node, reads_start}
 use Rattle.ra_host_text.specs.Fields.{nonce_of}
-use Rattle.ra_host_text.specs.HostText.{IsCount, IsNonce, nonce_text}
+use Rattle.ra_host_text.specs.HostText.{IsCount, nonce_text}
 use Rattle.ra_host_text.specs.LineFields.{client_of, gone_of, input_by, input_line_of, nonce_line_of, peer_of, time_of, up_of, worded_input_of}
 use Rattle.ra_host_text.specs.LineText.{Input, IsInput, IsInputInRange, input_of, input_text}
 use Rattle.ra_host_text.specs.LineText.Input.{Nonce, Peer, Up, Client, Gone, Time, Release}

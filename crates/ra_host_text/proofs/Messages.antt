@@ -1,6 +1,6 @@
 -- Messages are read as they are written.
-use Rattle.std.proofs.Common.{◌≡◌, ◌≢◌, ◌==◌, ◌⊎◌, ◌<◌, ℕ, true, false, List, [], ◌∷◌, ◌++◌, Option, Some, None, option_map, refl, sym, ap, subst, ◌∙◌, codes, inl, inr, arith, lit<}
-use Rattle.std.specs.Prelude.{All, MatchOption}
+use Rattle.std.proofs.Common.{◌≡◌, ◌==◌, ◌<◌, ℕ, false, List, ◌∷◌, ◌++◌, Option, Some, None, option_map, refl, sym, ap, subst, ◌∙◌, codes, inl, inr, lit<}
+use Rattle.std.specs.Prelude.{MatchOption}
 use Rattle.std.specs.Fmt.{decimal}
 use Rattle.std.specs.Str.{bytes_eq}
 use Rattle.std.proofs.lemmas.Bool.{cases_Bool}
@@ -14,10 +14,10 @@ use Rattle.ra_trace.proofs.Spelled.{reads_start}
 use Rattle.ra_host_text.specs.declared.host_message.HostMessage.{HostMessage}
 use Rattle.ra_host_text.specs.declared.host_message.HostMessage.TheVariants.{Hello, Welcome, Frame as Framed, Ack, Old}
 use Rattle.ra_host_text.specs.Fields.{ack_of, frame_fields_of, hello_of, nonce_of, old_of, plain_message_of, question_of, settings_of, start_and_kept_of, welcome_of}
-use Rattle.ra_host_text.specs.HostText.{IsCount, IsFrameDigits, IsInRange, IsMessage, IsNonce, IsSpelled, nonce_text, question_text}
+use Rattle.ra_host_text.specs.HostText.{IsFrameDigits, IsInRange, IsMessage, IsSpelled, nonce_text, question_text}
 use Rattle.ra_host_text.proofs.Frames.{frame_free}
 use Rattle.ra_host_text.proofs.Nonces.{high_word, nonce_free}
-use Rattle.ra_host_text.proofs.Takes.{join_2, join_3, join_4, reads_ack, reads_hello, reads_welcome, takes_frame}
+use Rattle.ra_host_text.proofs.Takes.{join_3, join_4, reads_ack, reads_hello, reads_welcome, takes_frame}
 
 -- ---- The first word, and what is after it
 

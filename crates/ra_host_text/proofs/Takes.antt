@@ -1,5 +1,5 @@
 -- Fields that are read, and a rest that may be anything.
-use Rattle.std.proofs.Common.{◌≡◌, ◌<◌, ◌==◌, ℕ, false, List, [], ◌∷◌, ◌++◌, Option, Some, None, option_map, refl, sym, ap, subst, ◌∙◌, arith, lit<, append_assoc}
+use Rattle.std.proofs.Common.{◌≡◌, ◌<◌, ◌==◌, ℕ, false, List, [], ◌∷◌, ◌++◌, Option, Some, None, option_map, sym, ap, subst, ◌∙◌, arith, lit<, append_assoc}
 use Rattle.std.specs.Prelude.{MatchOption, option_and_then}
 use Rattle.std.proofs.lemmas.Bool.{ne_eqb}
 use Rattle.std.proofs.lemmas.List.Elements.{All-append, All-cons}
@@ -8,10 +8,10 @@ use Rattle.std.specs.Fmt.{decimal}
 use Rattle.ra_stamp.specs.Name.{IsName}
 use Rattle.ra_stamp.specs.NodeId.{IsNodeNumber}
 use Rattle.ra_text.specs.Lines.{field}
-use Rattle.ra_trace.specs.Forms.{before, cut, fields, name_of, node_of, start_of}
+use Rattle.ra_trace.specs.Forms.{before, cut, fields, start_of}
 use Rattle.ra_trace.proofs.Cuts.{IsFree, cut-append, cut-only, mapped}
 use Rattle.ra_trace.proofs.Spelled.{Reads, ReadsField, reads_fields, reads_name, reads_node, reads_start}
-use Rattle.ra_host_text.specs.Fields.{address_of, first_and_identity_of, frame_fields_of, hosts_of, nonce_of, question_of, settings_of, start_and_kept_of}
+use Rattle.ra_host_text.specs.Fields.{address_of, frame_fields_of, nonce_of, question_of, settings_of, start_and_kept_of}
 use Rattle.ra_host_text.specs.HostText.{IsCount, IsNonce, nonce_text, question_text}
 use Rattle.ra_host_text.proofs.Nonces.{nonce_free, reads_nonce}
 

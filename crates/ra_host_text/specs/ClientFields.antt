@@ -35,7 +35,9 @@ unlock_of text = option_map Unlock (name_of text)
 -- by the first word and what is after it
 abbrev pub named_line_of : List ℕ → List ℕ → Option ClientLine
 named_line_of word rest =
-    if bytes_eq word (codes "lock") then lock_of rest else if bytes_eq word (codes "unlock") then unlock_of rest else None
+    if bytes_eq word (codes "lock") then lock_of rest
+    else if bytes_eq word (codes "unlock") then unlock_of rest
+    else None
 
 -- a line with a name, or the one without
 abbrev pub client_line_by : Option (List ℕ × List ℕ) → List ℕ → Option ClientLine

@@ -1,5 +1,4 @@
 use Rattle.ra_text.proofs.Drafts.{adds_as, adds_both}
-use Rattle.std.proofs.Common.{◌∙◌, ap}
 use Rattle.ra_host_text.proofs.Takes.{join_question}
 use Rattle.ra_host_text.specs.HostText.{nonce_text}
 use Rattle.ra_host_text.proofs.host_message.push_question.Goals as goal

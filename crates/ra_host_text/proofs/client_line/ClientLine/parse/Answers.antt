@@ -1,5 +1,4 @@
-use Rattle.std.proofs.Common.{◌≡◌, None, codes, rules}
-use Rattle.ra_trace.specs.Forms.{cut}
+use Rattle.std.proofs.Common.{◌≡◌, codes, rules}
 use Rattle.ra_host_text.proofs.Clients.{client_none, client_parts}
 use Rattle.ra_host_text.proofs.client_line.ClientLine.parse.Goals as goal
 

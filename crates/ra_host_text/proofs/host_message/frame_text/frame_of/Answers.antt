@@ -1,9 +1,7 @@
-use Rattle.std.proofs.Common.{◌≡◌, ◌/◌, ◌∙◌, List, ℕ, length, ap, refl, sym, subst, arith, rules}
-use Rattle.std.specs.Prelude.{Err, Ok, Result}
+use Rattle.std.proofs.Common.{◌≡◌, ◌/◌, List, ℕ, length, sym, subst, arith, rules}
+use Rattle.std.specs.Prelude.{Ok}
 use Rattle.hex.specs.Hex.{decode_sized}
 use Rattle.ra_frame.specs.FrameText.{IsFrameText}
-use Rattle.ra_frame.specs.declared.error.FrameError.{FrameError}
-use Rattle.ra_frame.specs.declared.frame.Frame.{Frame}
 use Rattle.ra_host_text.specs.HostText.{IsFrameDigits}
 use Rattle.ra_host_text.proofs.Frames.{decoded_as, digits_short, undecoded}
 use Rattle.ra_host_text.proofs.host_message.frame_text.frame_of.Goals as goal

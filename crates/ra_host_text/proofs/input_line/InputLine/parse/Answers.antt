@@ -1,4 +1,4 @@
-use Rattle.std.proofs.Common.{◌≡◌, None, codes, rules}
+use Rattle.std.proofs.Common.{◌≡◌, codes, rules}
 use Rattle.ra_host_text.proofs.Inputs.{input_none, input_parts}
 use Rattle.ra_host_text.proofs.input_line.InputLine.parse.Goals as goal
 
