@@ -3,5 +3,9 @@ mod LostFrames
 mod NoError
 mod GivenGrants
 mod Telling
+mod NodeLaws
+mod LetIn
+mod StillWaiting
+mod Waiters
 mod EndedRequests
 pub mod Refusing

@@ -7,7 +7,6 @@ use Rattle.std.proofs.lemmas.List.Elements.{filter-append}
 use Rattle.ra_stamp.specs.declared.entry.Mark.{Mark}
 use Rattle.ra_frame.specs.declared.frame.Frame.{Frame}
 use Rattle.ra_book.specs.declared.book.event.BookKind.{BookKind}
-use Rattle.ra_book.specs.declared.book.event.BookKind.TheVariants.{Receive}
 use Rattle.ra_book.specs.declared.book.sent.Sent.{Sent}
 use Rattle.ra_book.specs.Book.{BookState, Adds, IsFirst, Loses, as_sent}
 use Rattle.ra_site.specs.Losses.{lost_frames}
@@ -50,19 +49,16 @@ pub still_none : (old : BookState) (kind : BookKind) (frames : List Frame) (mark
     → (may : Bool) → (may ≡ false → lost_frames old.sent ≡ []) → may ≡ false → lost_frames new.sent ≡ []
 still_none old kind frames marks new adds may none not = event_loses_none old kind frames marks new adds ∙ none not
 
+-- nor if the book is as before
+pub none_as_before : (old new : BookState) → new ≡ old → (may : Bool) → (may ≡ false → lost_frames old.sent ≡ []) → may ≡ false → lost_frames new.sent ≡ []
+none_as_before old new same may none not = ap (λ (b : BookState). lost_frames b.sent) same ∙ none not
+
 -- nor after a call that adds an event or is refused
 pub still_none_after : {P E : Type 0} (old new : BookState) (kind : BookKind) (answer : Result P E) (frames : P → List Frame) (marks : P → List Mark)
     → IfOk answer (λ p. Adds old kind (frames p) (marks p) new) → OnErr answer (new ≡ old)
     → (may : Bool) → (may ≡ false → lost_frames old.sent ≡ []) → may ≡ false → lost_frames new.sent ≡ []
 still_none_after old new kind (Ok p) frames marks adds same may none not = still_none old kind (frames p) (marks p) new adds may none not
-still_none_after old new kind (Err e) frames marks adds same may none not = ap (λ (b : BookState). lost_frames b.sent) same ∙ none not
-
--- nor after one that takes a frame
-pub still_none_heard : {P E : Type 0} (old new : BookState) (IsText : Frame → Type 0) (answer : Result P E) (frames : P → List Frame) (marks : P → List Mark)
-    → IfOk answer (λ p. (frame : Frame) × IsText frame × Adds old (Receive frame) (frames p) (marks p) new) → OnErr answer (new ≡ old)
-    → (may : Bool) → (may ≡ false → lost_frames old.sent ≡ []) → may ≡ false → lost_frames new.sent ≡ []
-still_none_heard old new IsText (Ok p) frames marks heard same may none not = still_none old (Receive heard.0) (frames p) (marks p) new heard.2 may none not
-still_none_heard old new IsText (Err e) frames marks heard same may none not = ap (λ (b : BookState). lost_frames b.sent) same ∙ none not
+still_none_after old new kind (Err e) frames marks adds same may none not = none_as_before old new same may none not
 
 if_ok : {T E : Type 0} (A : Type 0) (r : Result T E) → IsOk r → OnOk r A → A
 if_ok A (Ok x) done h = h

@@ -9,6 +9,7 @@ pub mod stop_causes;
 pub mod take_error;
 pub mod ticket;
 pub mod time_limit;
+pub mod waiters;
 
 ghost use Rattle.std.specs.Prelude.{◌≡◌, ◌≤◌, true, false, [], All, IfOk, IsErrOf, OnErr, OnOk};
 ghost use Rattle.ra_stamp.specs.NodeId.{IsNodeNumber};

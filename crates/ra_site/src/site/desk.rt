@@ -1,7 +1,6 @@
 //! What is under the lock of a site: the book, and the clients that wait.
-ghost use Rattle.std.specs.Prelude.{◌≡◌, ◌≢◌, ◌↔◌, ◌⊎◌, ◌<◌, false, [], List, All, Contains, IsNone};
-ghost use Rattle.std.specs.Prelude.{IfNone, IfOk, IfSome, IsErrOf, IsTrue, OnErr, OnOk};
-ghost use Rattle.std.specs.Prelude.{slice_index_or, vec_len, vec_capacity};
+ghost use Rattle.std.specs.Prelude.{◌≡◌, ◌≢◌, ◌↔◌, ◌⊎◌, false, [], List, All, Any, Contains, IsNone};
+ghost use Rattle.std.specs.Prelude.{IfNone, IfOk, IfSome, IsErrOf, OnErr, OnOk};
 ghost use Rattle.std.specs.Option.{ForSome};
 ghost use Rattle.ra_frame.specs.Fits.{Fits};
 ghost use Rattle.ra_book.specs.History.{clock_of};
@@ -14,41 +13,21 @@ ghost use Rattle.ra_stamp.specs.declared.entry.Mark as mark;
 ghost use Rattle.ra_site.specs.declared.site.SiteError as site;
 ghost use Rattle.ra_site.specs.ClientGrant.{Gives, WasGiven};
 ghost use Rattle.ra_site.specs.PassedOn.{IsNotCancelled};
-ghost use Rattle.ra_site.specs.Waiting.{IsWaiterFor, WaitsNot};
-ghost use Rattle.ra_site.specs.declared.site.desk.Waiter as waiting;
+ghost use Rattle.ra_site.specs.Waiting.{IsWaiterFor, WaitsNot, IsEachOnce, WaitOn, WaitsIn, entry_let_in};
 ghost use Rattle.ra_site.specs.Handing.{IsAllLeft, OnlyTurnOrMemory};
 ghost use Rattle.ra_site.specs.Losses.{lost_frames};
 
 use crate::site::refused_frames::lost_of;
 use crate::site::request::Request;
 use crate::site::ticket::SharedTicket;
+use crate::site::waiters::{Waiter, make_waiter, take, take_let_in};
 use crate::{
     Book, BookError, Events, Frames, Gate, Grant, Posted, Sent, SiteError, Stop, TakeError,
 };
 use ra_frame::Frame;
-use ra_stamp::{Entry, Mark, Memory, Name, NodeId};
+use ra_stamp::{Memory, Name, NodeId};
 use std::alloc::Global;
 use std::mem;
-use std::sync::Arc;
-
-/// A client that waits, and the ticket that tells its thread the outcome of its request. A client has at most one
-/// request on a name, so the two name the request.
-#[derive(Drop)]
-pub struct Waiter {
-    client: u32,
-    name: Name,
-    /// It tells the client's thread.
-    pub ticket: SharedTicket,
-}
-
-impl Waiter {
-    /// Returns whether it is this client, which waits for this name.
-    fn is_for(&self, client: u32, name: &Name) -> bool
-        ensures { IsTrue result ↔ IsWaiterFor client name.now self.now }
-    {
-        self.client == client && self.name == *name
-    }
-}
 
 /// What a call made of the book: the frames to send, the client that it let in and the one that gave up, if there are
 /// such.
@@ -74,6 +53,9 @@ pub struct Desk {
     /// Whether one of the frames that the book has may be flagged lost. If not, a round does not look at each.
     may_have_lost: bool,
     ghost flagged: { may_have_lost ≡ false → lost_frames book.sent ≡ [] },
+    ghost once: { IsEachOnce waiters.items },
+    // So whose request is granted or given up was taken out, to be told, and no thread waits for a request that ended.
+    ghost waits: { ∥ All (WaitsIn book) waiters.items ∥₁ },
 }
 
 /// What a node hands over in a round of an audit. It has left the node's book.
@@ -139,6 +121,8 @@ impl Desk {
         ensures given { IfOk result
             (λ stepped. IfSome stepped.told (λ told. Gives self.old.book self.new.book told.1)) }
         ensures err { OnErr result (self.new.book ≡ self.old.book) }
+        ensures waits { IfOk result (λ stepped. IfNone stepped.told
+            (Any (IsWaiterFor request.now.client request.now.name) self.new.waiters.items)) }
         ensures refused { (why : BookError) → IsErrOf result (site.SiteError.Refused why)
             → RefusesAsk self.old.book request.now.client request.now.name request.now.mode why }
         ensures others { IsNotCancelled result }
@@ -146,7 +130,7 @@ impl Desk {
         if let Some(stop) = self.halt(node, gate) {
             return Err(SiteError::Stopped(stop));
         }
-        let Some(waiter) = self.waiter(request, ticket) else {
+        let Some(waiter) = make_waiter(&mut self.waiters, request, ticket) else {
             // Each other cause comes before `Memory`.
             let refused = self
                 .book
@@ -157,23 +141,7 @@ impl Desk {
             .book
             .ask(alloc, request.client, request.name, request.mode)?;
         self.waiters.push_reserved(waiter);
-        Ok(self.stepped(posted, None))
-    }
-
-    /// Makes room for one more client that waits, and returns that client, or `None` if there is no memory or no
-    /// ticket.
-    fn waiter(&mut self, request: &Request, ticket: Option<&SharedTicket>) -> Option<Waiter>
-        ensures room { IfSome result (λ _. vec_len self.new.waiters < vec_capacity self.new.waiters) }
-        ensures book { self.new.book ≡ self.old.book }
-    {
-        let ticket = ticket?;
-        self.waiters.reserve(1).ok()?;
-        let ticket = Arc::try_clone(ticket).ok()?;
-        Some(Waiter {
-            client: request.client,
-            name: request.name,
-            ticket,
-        })
+        Ok(made_by(&mut self.waiters, posted, None))
     }
 
     /// Asks the gate of this node, and then the client that holds a name leaves it.
@@ -208,7 +176,7 @@ impl Desk {
             return Err(SiteError::Stopped(stop));
         }
         let posted = self.book.leave(alloc, client, name)?;
-        Ok(self.stepped(posted, None))
+        Ok(made_by(&mut self.waiters, posted, None))
     }
 
     /// Asks the gate of this node, and then a client that waits or is queued for a name gives it up. Its thread is to
@@ -235,7 +203,9 @@ impl Desk {
             (λ stepped. IfSome stepped.told (λ told. Gives self.old.book self.new.book told.1)) }
         ensures err { OnErr result (self.new.book ≡ self.old.book) }
         ensures me { OnOk result (self.old.book.me ≡ node) }
-        ensures told { IfOk result (λ stepped.
+        ensures told { IfOk result (λ stepped. IfSome stepped.given_up (λ ticket.
+            Any (λ w. IsWaiterFor client name w × (w.ticket ≡ ticket)) self.old.waiters.items)) }
+        ensures nobody { IfOk result (λ stepped.
             IfNone stepped.given_up (WaitsNot client name self.old.waiters.items)) }
         ensures refused { (why : BookError) → IsErrOf result (site.SiteError.Refused why)
             → RefusesCancel self.old.book client name why }
@@ -246,8 +216,8 @@ impl Desk {
             return Err(SiteError::Stopped(stop));
         }
         let posted = self.book.cancel(alloc, client, name)?;
-        let given_up = self.take(client, &name);
-        Ok(self.stepped(posted, given_up))
+        let given_up = take(&mut self.waiters, client, &name);
+        Ok(made_by(&mut self.waiters, posted, given_up))
     }
 
     /// Does what `cancel` does for the client of this request, if it still waits by this ticket. A later request of the
@@ -274,7 +244,10 @@ impl Desk {
         ensures given { IfOk result
             (λ stepped. IfSome stepped.told (λ told. Gives self.old.book self.new.book told.1)) }
         ensures me { OnOk result (self.old.book.me ≡ node) }
-        ensures told { IfOk result (λ stepped.
+        ensures told { IfOk result (λ stepped. IfSome stepped.given_up (λ ticket.
+            Any (λ w. IsWaiterFor request.now.client request.now.name w × (w.ticket ≡ ticket))
+            self.old.waiters.items)) }
+        ensures nobody { IfOk result (λ stepped.
             IfNone stepped.given_up (WaitsNot request.now.client request.now.name self.old.waiters.items)) }
         ensures err { OnErr result (self.new.book ≡ self.old.book) }
         ensures refused { (why : BookError) → IsErrOf result (site.SiteError.Refused why)
@@ -337,7 +310,7 @@ impl Desk {
             return Err(SiteError::Stopped(stop));
         }
         let posted = self.book.receive(alloc, bytes)?;
-        Ok(self.stepped(posted, None))
+        Ok(made_by(&mut self.waiters, posted, None))
     }
 
     /// Hands the book frames, and asks the gate of this node before each. Puts the result of each into the list.
@@ -436,78 +409,28 @@ impl Desk {
         }
         lost_of(alloc, &self.book)
     }
-
-    /// Returns what the last event of the book made, with the client that gave up in it. The client that it let in
-    /// waits no more.
-    fn stepped(&mut self, posted: Posted, given_up: Option<SharedTicket>) -> Stepped
-        requires fit { All Fits posted.frames.items }
-        requires given { (grant : granted.Grant) → Contains posted.marks.items (mark.Mark.Entered grant.entry)
-            → WasGiven grant }
-        ensures frames { result.frames.items ≡ posted.frames.items }
-        ensures given_up { result.given_up ≡ given_up }
-        ensures entered { IfSome result.told (λ told. Contains posted.marks.items (mark.Mark.Entered told.1.entry)) }
-        ensures book { self.new.book ≡ self.old.book }
-    {
-        let Posted { frames, marks } = posted;
-        let told = match entry_let_in(marks.as_slice()) {
-            Some(entry) => self.take_granted(entry),
-            None => None,
-        };
-        Stepped {
-            frames,
-            told,
-            given_up,
-        }
-    }
-
-    /// Takes the client that waits for this request to be granted out of those that wait, if it is among them.
-    fn take_granted(&mut self, entry: Entry) -> Option<(SharedTicket, Grant)>
-        ensures entry { IfSome result (λ told. told.1.entry ≡ entry) }
-        ensures book { self.new.book ≡ self.old.book }
-    {
-        let ticket = self.take(entry.client, &entry.name)?;
-        Some((ticket, Grant { entry }))
-    }
-
-    /// Takes a client that waits for a name out of those that wait, if it is among them. Returns its ticket.
-    fn take(&mut self, client: u32, name: &Name) -> Option<SharedTicket>
-        ensures none { IfNone result (WaitsNot client name.now self.old.waiters.items) }
-        ensures book { self.new.book ≡ self.old.book }
-    {
-        let place = self.place_of(client, name)?;
-        let Waiter {
-            client: _,
-            name: _,
-            ticket,
-        } = self.waiters.swap_remove(place);
-        ticket.mark_taken();
-        Some(ticket)
-    }
-
-    /// Returns the place of a client that waits for a name. The cost is linear in the number of those that wait.
-    fn place_of(&self, client: u32, name: &Name) -> Option<usize>
-        ensures within { IfSome result (λ place. place < vec_len self.now.waiters) }
-        ensures waiter { IfSome result (λ place. (d : waiting.Waiter)
-            → IsWaiterFor client name.now (slice_index_or self.now.waiters.items place d)) }
-        ensures none { IfNone result (WaitsNot client name.now self.now.waiters.items) }
-    {
-        for place in 0..self.waiters.len() {
-            if self.waiters[place].is_for(client, name) {
-                return Some(place);
-            }
-        }
-        None
-    }
 }
 
-/// Returns the request that an event granted, if there is one: an event lets in at most one client.
-fn entry_let_in(marks: &[Mark]) -> Option<Entry>
-    ensures { IfSome result (λ entry. Contains marks.now (mark.Mark.Entered entry)) }
+/// Returns what the last event of a book made, with the client that gave up in it. The client that it let in waits no
+/// more.
+fn made_by(waiters: &mut Vec<Waiter>, posted: Posted, given_up: Option<SharedTicket>) -> Stepped
+    requires once { IsEachOnce waiters.old.items }
+    requires fit { All Fits posted.frames.items }
+    requires given { (grant : granted.Grant) → Contains posted.marks.items (mark.Mark.Entered grant.entry)
+        → WasGiven grant }
+    ensures frames { result.frames.items ≡ posted.frames.items }
+    ensures given_up { result.given_up ≡ given_up }
+    ensures entered { IfSome result.told (λ told. Contains posted.marks.items (mark.Mark.Entered told.1.entry)) }
+    ensures left { WaitOn (entry_let_in posted.marks.items) waiters.old.items waiters.new.items }
+    ensures told { IfSome result.told (λ told.
+        Any (λ w. IsWaiterFor told.1.entry.client told.1.entry.name w × (w.ticket ≡ told.0)) waiters.old.items) }
+    ensures nobody { IfNone result.told (waiters.new.items ≡ waiters.old.items) }
 {
-    for mark in marks {
-        if let Mark::Entered(entry) = mark {
-            return Some(*entry);
-        }
+    let Posted { frames, marks } = posted;
+    let told = take_let_in(waiters, marks.as_slice());
+    Stepped {
+        frames,
+        told,
+        given_up,
     }
-    None
 }
