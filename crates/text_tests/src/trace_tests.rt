@@ -1,4 +1,5 @@
 //! Traces and mark logs as they are read and written.
+pub mod followed_texts;
 pub mod log_readers;
 pub mod refused_traces;
 pub mod round_trips;

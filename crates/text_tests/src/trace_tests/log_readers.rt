@@ -22,7 +22,7 @@ leave 2 2 r X 2
 const TWO_WRITERS_LENGTH: usize = 100;
 
 /// The same with both inside at once. Its fourth line ends with byte 68.
-const BOTH_INSIDE: &str = "request 1 1 r X 1
+pub const BOTH_INSIDE: &str = "request 1 1 r X 1
 request 2 2 r X 2
 enter 1 1 r X 1
 enter 2 2 r X 2
