@@ -30,7 +30,7 @@ pub record Giver (grant : Grant) : Type 0 where
   pub gives : Gives before book grant
   pub history : HasHistory book
 
--- Some book gave the grant. It need not be the book of a site, and one can be made up for a request that no client made.
--- No clause can name the book that is under the lock of a site, since of what a lock guards only its type is known.
+-- Some book gave the grant, which need not be the book of a site. No clause can name the book that is under the lock of
+-- a site, since of what a lock guards only its type is known.
 abbrev pub WasGiven : Grant → Type 0
 WasGiven grant = ∥ Giver grant ∥₁
