@@ -1,11 +1,15 @@
 //! If a growth is refused, the call returns `Memory` and changes nothing, and it succeeds when it is made again. Also
 //! what an automaton shows after each call.
 use crate::core_asserting::{assert_same, judge};
-use crate::node_tests::automaton_calls::{leave, leave_and_request, receive, request};
-use Call::{Ask, Leave, LeaveAndAsk, Reply, Request};
+use crate::node_tests::automaton_calls::{
+    leave, leave_and_request, receive, request, withdraw, withdraw_and_request,
+};
+use Call::{Ask, Leave, LeaveAndAsk, Reply, Request, Withdraw, WithdrawAndAsk};
 use Doing::{IsInside, Nothing, Waits};
 use Mode::{Exclusive, Shared};
-use ra_automaton::{Automaton, LeaveError, NewError, Phase, Reaction, ReceiveError, RequestError};
+use ra_automaton::{
+    Automaton, LeaveError, NewError, Phase, Reaction, ReceiveError, RequestError, WithdrawError,
+};
 use ra_frame::{Frame, encode};
 use ra_stamp::{Memory, Message, Mode};
 use std::alloc::Global;
@@ -24,6 +28,9 @@ enum Call {
     /// It leaves and makes a shared request in one event.
     LeaveAndAsk,
     Leave,
+    /// It withdraws its request and makes a shared one in one event.
+    WithdrawAndAsk,
+    Withdraw,
 }
 
 /// What an automaton is doing.
@@ -55,7 +62,8 @@ const BOTH: [bool; 4] = [false, true, true, false];
 
 const NOTHING: [u64; 4] = [0; 4];
 
-/// Every call at least once; each succeeds at its place. Both times that the automaton leaves, a node is deferred.
+/// Every call at least once; each succeeds at its place. Each time that the automaton leaves or withdraws, a node is
+/// deferred.
 const ROWS: &[Row] = &[
     Row {
         call: Request(2, 3),
@@ -147,6 +155,51 @@ const ROWS: &[Row] = &[
         awaits: NOBODY,
         defers: NOTHING,
     },
+    Row {
+        call: Ask,
+        doing: Waits,
+        seq: 8,
+        mode: Exclusive,
+        highest: 8,
+        awaits: BOTH,
+        defers: NOTHING,
+    },
+    Row {
+        call: Request(2, 9),
+        doing: Waits,
+        seq: 8,
+        mode: Exclusive,
+        highest: 9,
+        awaits: BOTH,
+        defers: [0, 9, 0, 0],
+    },
+    Row {
+        call: WithdrawAndAsk,
+        doing: Waits,
+        seq: 10,
+        mode: Shared,
+        highest: 10,
+        awaits: BOTH,
+        defers: NOTHING,
+    },
+    Row {
+        call: Request(3, 11),
+        doing: Waits,
+        seq: 10,
+        mode: Shared,
+        highest: 11,
+        awaits: BOTH,
+        defers: [0, 0, 11, 0],
+    },
+    Row {
+        call: Withdraw,
+        doing: Nothing,
+        seq: 0,
+        mode: Exclusive,
+        highest: 11,
+        awaits: NOBODY,
+        defers: NOTHING,
+    },
 ];
 
 /// Looks at what a leave answered. If it was taken, asserts that it sent this many messages, otherwise that memory ran
@@ -163,8 +216,21 @@ fn judge_leave(
     judge(rt, at, came.err(), LeaveError::Memory)
 }
 
-/// Makes a call. If it is refused, memory ran out. Leaving sends the deferred REPLY, and asking again sends two
-/// REQUESTs.
+/// Does the same with what a withdrawal answered.
+fn judge_withdrawal(
+    rt: &impl Abort,
+    at: At<'_>,
+    came: Result<Reaction, WithdrawError>,
+    sends: u64,
+) -> Result<(), Memory> {
+    if let Ok(reaction) = &came {
+        assert_same(rt, at, &reaction.sends.len(), &sends);
+    }
+    judge(rt, at, came.err(), WithdrawError::Memory)
+}
+
+/// Makes a call. If it is refused, memory ran out. Leaving or withdrawing sends the deferred REPLY, and asking again
+/// sends two REQUESTs.
 fn make(
     rt: &(impl Abort + AllocGlobal),
     at: At<'_>,
@@ -178,6 +244,10 @@ fn make(
         }
         LeaveAndAsk => return judge_leave(rt, at, leave_and_request(rt, automaton, Shared), 3),
         Leave => return judge_leave(rt, at, leave(rt.alloc(), automaton), 1),
+        WithdrawAndAsk => {
+            return judge_withdrawal(rt, at, withdraw_and_request(rt, automaton, Shared), 3);
+        }
+        Withdraw => return judge_withdrawal(rt, at, withdraw(rt.alloc(), automaton), 1),
         Reply(from, seq) => (from, None, seq),
         Request(from, seq) => (from, Some(Exclusive), seq),
     };

@@ -1,6 +1,6 @@
 //! The calls of an automaton, each by itself, so that what it promises is not before the prover in each test.
 use crate::core_asserting::node;
-use ra_automaton::{Automaton, LeaveError, Reaction, ReceiveError, RequestError};
+use ra_automaton::{Automaton, LeaveError, Reaction, ReceiveError, RequestError, WithdrawError};
 use ra_stamp::Mode;
 use std::alloc::Global;
 use std::process::Abort;
@@ -30,6 +30,23 @@ pub fn leave_and_request(
         panic!(rt; "no number is left");
     }
     automaton.leave_and_request(rt.alloc(), mode)
+}
+
+/// An automaton withdraws its request. Returns its answer.
+pub fn withdraw(alloc: Global, automaton: &mut Automaton) -> Result<Reaction, WithdrawError> {
+    automaton.withdraw(alloc)
+}
+
+/// An automaton withdraws its request and makes another one in one event. Returns its answer.
+pub fn withdraw_and_request(
+    rt: &(impl Abort + AllocGlobal),
+    automaton: &mut Automaton,
+    mode: Mode,
+) -> Result<Reaction, WithdrawError> {
+    if automaton.highest() == u64::MAX {
+        panic!(rt; "no number is left");
+    }
+    automaton.withdraw_and_request(rt.alloc(), mode)
 }
 
 /// An automaton takes the REQUEST in this mode, or the REPLY if no mode is given, of one node to another about its

@@ -1,6 +1,6 @@
 //! Each growth of a book is refused: the call answers that memory ran out, leaves everything as it was, and does what
 //! it should when it is made again.
-use crate::kept_books::book_steps::Call::{Ask, Receive};
+use crate::kept_books::book_steps::Call::{Ask, Cancel, Forget, Receive};
 use crate::kept_books::book_steps::{ASK, ASKS, Call, LEAVE, REPLIES, counts_of, refusal};
 use crate::kept_books::history_asserting::assert_same;
 use crate::kept_books::history_values::new_book;
@@ -11,7 +11,7 @@ use std::process::Abort;
 use test_support::{At, Tried, assert_grown, both};
 
 /// Makes a call of a book, and makes it again if memory ran out, when the book has to have these events, sent frames
-/// and clock, as before. A leave needs no memory: it may not be refused, whichever growth is.
+/// and clock, as before. A leave and a cancel need no memory: they may not be refused, whichever growth is.
 fn try_call(
     rt: &impl Abort,
     alloc: Global,
@@ -21,7 +21,7 @@ fn try_call(
     kept: (u64, u64, u64),
 ) -> Tried {
     let due = match call {
-        Call::Leave(_) => None,
+        Call::Leave(_) | Call::Cancel(_) => None,
         _ => Some(BookError::Memory),
     };
     let came = refusal(alloc, book, call);
@@ -96,6 +96,44 @@ const ANSWERS: &[Row] = &[
     },
 ];
 
+/// Node 2 asks, defers a REQUEST, and a second client queues. The first client gives up: the deferred REPLY and the
+/// REQUEST of the second client are sent. A third one gives up in the queue, the second one while it waits, and the
+/// node forgets names.
+const GIVES_UP: &[Row] = &[
+    Row {
+        call: ASK,
+        kept: (0, 0, 0),
+    },
+    Row {
+        call: Receive(&ASKS_AFTER),
+        kept: (1, 1, 1),
+    },
+    Row {
+        call: Ask(2, Mode::Exclusive),
+        kept: (2, 1, 6),
+    },
+    Row {
+        call: Cancel(1),
+        kept: (3, 1, 7),
+    },
+    Row {
+        call: Ask(3, Mode::Exclusive),
+        kept: (4, 3, 8),
+    },
+    Row {
+        call: Cancel(3),
+        kept: (5, 3, 9),
+    },
+    Row {
+        call: Cancel(2),
+        kept: (6, 3, 10),
+    },
+    Row {
+        call: Forget,
+        kept: (7, 3, 11),
+    },
+];
+
 /// Makes all calls of a book, which has this at the end.
 fn try_rows(
     rt: &impl Abort,
@@ -153,6 +191,13 @@ fn growth_of_a_book(rt: HostRuntime) {
 fn growth_of_a_book_that_answers_and_defers(rt: HostRuntime) {
     let mut book = book_of(&rt, 2, 2);
     let tried = try_rows(&rt, rt.alloc(), &mut book, ANSWERS, (6, 4, 10));
+    assert_grown!(&rt, tried);
+}
+
+#[test]
+fn growth_of_a_book_in_which_clients_give_up(rt: HostRuntime) {
+    let mut book = book_of(&rt, 2, 2);
+    let tried = try_rows(&rt, rt.alloc(), &mut book, GIVES_UP, (8, 3, 12));
     assert_grown!(&rt, tried);
 }
 

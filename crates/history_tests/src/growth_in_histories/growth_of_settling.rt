@@ -1,4 +1,5 @@
 //! Each growth of a settling is refused: it answers that memory ran out, and does what it should when it is done again.
+use crate::kept_books::book_steps::Call::{Cancel, Forget};
 use crate::kept_books::book_steps::Step::Takes;
 use crate::kept_books::book_steps::{ASK, LEAVE, refusal};
 use crate::kept_books::histories::Done::{AtNode, Loses, Passes};
@@ -76,7 +77,7 @@ fn growth_of_settling(rt: HostRuntime) {
     assert_grown!(&rt, again(first, second));
 }
 
-/// The same, after which the client asks again, and its REQUEST is lost.
+/// The same, after which the client asks again, its REQUEST is lost, it gives up, and its node forgets names.
 const ASKS_AGAIN: &[Done] = &[
     AtNode(1, Takes(ASK)),
     Passes(1, 0),
@@ -84,10 +85,12 @@ const ASKS_AGAIN: &[Done] = &[
     AtNode(1, Takes(LEAVE)),
     AtNode(1, Takes(ASK)),
     Loses(1, 1),
+    AtNode(1, Takes(Cancel(1))),
+    AtNode(1, Takes(Forget)),
 ];
 
 /// The run of the client, with the loss at its end.
-const LOSING_RUN: Due = (6, (2, 3), (1, 1));
+const LOSING_RUN: Due = (8, (2, 3), (1, 0));
 
 /// Settles two books with a grant, and with the last REQUEST lost. If that is refused, memory ran out.
 fn try_settling_a_loss(rt: &impl Abort, alloc: Global) -> Result<Tried, Memory> {
@@ -110,7 +113,7 @@ fn try_settling_a_loss(rt: &impl Abort, alloc: Global) -> Result<Tried, Memory> 
 }
 
 #[test]
-fn growth_of_settling_with_a_grant_and_a_loss(rt: HostRuntime) {
+fn growth_of_settling_with_a_grant_a_loss_and_a_withdrawal(rt: HostRuntime) {
     let alloc = rt.alloc();
     let first = try_settling_a_loss(&rt, alloc);
     let second = try_settling_a_loss(&rt, alloc);

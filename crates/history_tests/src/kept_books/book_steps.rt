@@ -2,15 +2,15 @@
 //! bytes come that no node sent, calls are refused, and clocks and frames are compared.
 use crate::kept_books::history_asserting::{assert_same, fail_at};
 use crate::kept_books::history_values::bytes_of;
-use Call::{Ask, Leave, Receive};
+use Call::{Ask, Cancel, Forget, Leave, Receive};
 use Step::{
     Fails, Has, HasAsk, HasFault, HasLeave, HasReceive, IsFree, IsHeld, IsNew, Loses, Posts,
     Refuses, RefusesToLose, Takes, WasSent,
 };
 use Wire::{Asks, Replies};
-use ra_book::{Book, BookError, BookEvent, BookKind, MarkLostError, Posted, Sent, Stop};
+use ra_book::{Book, BookError, BookEvent, BookKind, Frames, MarkLostError, Posted, Sent, Stop};
 use ra_frame::Frame;
-use ra_stamp::{Entry, Mark, Mode};
+use ra_stamp::{Entry, Mark, Marks, Mode};
 use std::alloc::Global;
 use std::process::Abort;
 use test_support::{At, r, reply, request, writer};
@@ -35,13 +35,17 @@ pub const REPLIES_1: [u8; 23] = [
     1, 2, 2, 1, 0, 0, 0, 0, 0, 0, 0, 0, 1, 0, 0, 0, 0, 0, 0, 0, 2, 1, b'r',
 ];
 
-/// A call of a book, which always asks for or leaves `r`.
+/// A call of a book, which always asks for, leaves or gives up `r`.
 #[derive(Clone, Copy)]
 pub enum Call<'a> {
     /// This client asks for it.
     Ask(u32, Mode),
     /// This client leaves it.
     Leave(u32),
+    /// This client gives it up.
+    Cancel(u32),
+    /// The node forgets names.
+    Forget,
     /// These bytes arrive.
     Receive(&'a [u8]),
 }
@@ -140,8 +144,19 @@ fn make(alloc: Global, book: &mut Book, call: Call<'_>) -> Result<Posted, BookEr
     match call {
         Ask(client, mode) => book.ask(alloc, client, r(), mode),
         Leave(client) => book.leave(alloc, client, r()),
+        Cancel(client) => book.cancel(alloc, client, r()),
+        Forget => forget(alloc, book),
         Receive(bytes) => book.receive(alloc, bytes),
     }
+}
+
+/// Has a book forget names, which posts nothing.
+fn forget(alloc: Global, book: &mut Book) -> Result<Posted, BookError> {
+    book.forget(alloc)?;
+    Ok(Posted {
+        frames: Frames::new(alloc),
+        marks: Marks::new(alloc),
+    })
 }
 
 /// Makes a call of a book. Returns why it is refused, or `None` if it is taken.
