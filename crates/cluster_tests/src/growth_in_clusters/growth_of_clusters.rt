@@ -3,18 +3,21 @@
 use crate::thread_scripts::letter_scripts::{Client, TWO_WRITERS, USES_R, script_of};
 use crate::thread_scripts::own_threads::run_in;
 use crate::whole_clusters::cluster_asserting::{assert_same, fail_at};
-use crate::whole_clusters::cluster_calls::{books_at_the_end, clusters_of, site, use_name};
+use crate::whole_clusters::cluster_calls::{
+    books_at_the_end, clusters_of, lock, site, unlock, use_name,
+};
 use crate::whole_clusters::cluster_values::{WANTING, node};
 use ra_cluster::{
     BookError, CallError, Cluster, ClusterError, OpenGate, SiteError, Stop, run_cluster,
 };
 use ra_schedule::Script;
-use ra_stamp::Memory;
+use ra_stamp::{Memory, Mode};
 use std::alloc::Global;
 use std::process::Abort;
 use std::sync::Wait;
 use std::thread::Threads;
-use test_support::{At, Tried, again, assert_grown, row};
+use std::time::{Clock, Duration};
+use test_support::{At, Tried, again, assert_grown, both, r, row};
 
 /// Returns that memory ran out, after asserting that a call of a cluster may answer this if a growth was refused,
 /// either in the caller's thread or in one that carries frames, which then stops all nodes.
@@ -55,6 +58,29 @@ fn try_client<R: Wait + Abort>(
         Ok(held) => judge_unlock(rt, held.unlocked),
         Err(CallError::Site(fault)) => Err(judge_refusal(rt, at, fault)),
         Err(CallError::NoNode) => fail_at(rt, at, "there is no node 1"),
+    }
+}
+
+/// While client 1 of the only node holds `r`, client 2 asks for it and gives up at once, and the node forgets names.
+/// Then client 1 unlocks `r`, which needs no memory. If one of the others was refused, memory ran out.
+fn try_giving_up<R: Wait + Clock + Abort>(
+    rt: &R,
+    alloc: Global,
+    cluster: &Cluster<OpenGate>,
+) -> Result<Tried, Memory> {
+    let (at, one, mode) = (row("a client gives up"), node(rt, 1), Mode::Exclusive);
+    if let Err(CallError::Site(fault)) = lock(rt, alloc, cluster, one, 1, r(), mode) {
+        return Err(judge_refusal(rt, at, fault));
+    }
+    let given_up = cluster.lock_within(rt, alloc, one, 2, r(), mode, Duration::ZERO);
+    let forgot = cluster.forget(rt, alloc, one);
+    assert_same(rt, at, &unlock(rt, alloc, cluster, one, 1), &Ok(()));
+    match (given_up, forgot) {
+        (Ok(None), Ok(())) => Ok(Tried::NoFailure),
+        (Err(CallError::Site(fault)), _) | (Ok(None), Err(CallError::Site(fault))) => {
+            Err(judge_refusal(rt, at, fault))
+        }
+        _ => fail_at(rt, at, "client 2 was let in, or there is no node 1"),
     }
 }
 
@@ -108,7 +134,8 @@ fn try_keeping<R: AllocGlobal + Threads + Wait + Abort + Sync>(
 /// What clients do in a cluster.
 #[derive(Clone, Copy)]
 enum Work {
-    /// The client of the only node locks `r` and unlocks it. If that finds no memory, it does so again.
+    /// The client of the only node locks `r` and unlocks it. Another one gives `r` up, and the node forgets names. If
+    /// that finds no memory, they do so again.
     Alone,
     /// The client of node 1 of two does so while the nodes carry their frames.
     Carried,
@@ -117,16 +144,22 @@ enum Work {
 }
 
 /// Has clients do this in a cluster. If they do not, memory ran out.
-fn try_in<R: AllocGlobal + Threads + Wait + Abort + Sync>(
+fn try_in<R: AllocGlobal + Threads + Wait + Clock + Abort + Sync>(
     rt: &R,
     cluster: &Cluster<OpenGate>,
     work: Work,
 ) -> Result<Tried, Memory> {
     let alloc = rt.alloc();
     match work {
-        Work::Alone => Ok(again(
-            try_client(rt, alloc, cluster),
-            try_client(rt, alloc, cluster),
+        Work::Alone => Ok(both(
+            again(
+                try_client(rt, alloc, cluster),
+                try_client(rt, alloc, cluster),
+            ),
+            again(
+                try_giving_up(rt, alloc, cluster),
+                try_giving_up(rt, alloc, cluster),
+            ),
         )),
         Work::Carried => cluster.run(rt, alloc, || try_client(rt, alloc, cluster)),
         Work::Script(nodes, clients) => try_keeping(rt, cluster, nodes, clients),
@@ -135,7 +168,7 @@ fn try_in<R: AllocGlobal + Threads + Wait + Abort + Sync>(
 
 /// Makes a cluster, has clients do this in it, and closes it, which takes no memory. If the cluster cannot be made, or
 /// was stopped, memory ran out.
-fn try_work<R: AllocGlobal + Threads + Wait + Abort + Sync>(
+fn try_work<R: AllocGlobal + Threads + Wait + Clock + Abort + Sync>(
     rt: &R,
     work: Work,
 ) -> Result<Tried, Memory> {
@@ -155,7 +188,7 @@ fn try_work<R: AllocGlobal + Threads + Wait + Abort + Sync>(
 }
 
 /// Does so, and does it anew if memory ran out.
-fn grow<R: AllocGlobal + Threads + Wait + Abort + Sync>(rt: &R, work: Work) {
+fn grow<R: AllocGlobal + Threads + Wait + Clock + Abort + Sync>(rt: &R, work: Work) {
     assert_grown!(rt, again(try_work(rt, work), try_work(rt, work)));
 }
 

@@ -9,7 +9,8 @@ use ra_stamp::{Entry, Memory, Mode};
 use std::alloc::Global;
 use std::process::Abort;
 use std::sync::Wait;
-use test_support::{Tried, again, assert_grown, assert_memory, part, r, row};
+use std::time::{Clock, Duration};
+use test_support::{Tried, again, assert_grown, assert_memory, both, part, r, row};
 
 /// Sends a frame from node 1 to node 2.
 fn send_one<R: Wait + Abort>(rt: &R, alloc: Global, post: &Post) -> Result<(), Option<SendError>> {
@@ -64,9 +65,42 @@ fn refusal_of_lock<R: Wait>(
         .err()
 }
 
-/// Has a client lock `r` at a site, and lock it again if memory ran out, when the site has to be as before. Then the
-/// client unlocks it, which needs no memory.
-fn try_site<R: Wait + Abort>(rt: &R, alloc: Global, all: &Cluster, site: &Site) -> Tried {
+/// While client 1 holds `r` at a site, client 2 asks for it and gives up at once, and again if memory ran out. The ask
+/// may find no memory, but to give up needs none: either way nobody is queued then.
+fn try_giving_up<R: Wait + Clock + Abort>(
+    rt: &R,
+    alloc: Global,
+    all: &Cluster,
+    site: &Site,
+) -> Tried {
+    let (at, before) = (row("a client of one site gives up"), state_of(rt, site));
+    let came = all.lock_within_at(rt, alloc, site, 2, Duration::ZERO);
+    if came == Ok(None) {
+        return Tried::NoFailure;
+    }
+    assert_same(rt, at, &came, &Err(WANTING));
+    assert_same(rt, at, &state_of(rt, site), &before);
+    let came = all.lock_within_at(rt, alloc, site, 2, Duration::ZERO);
+    assert_same(rt, at, &(came, site.queued(rt)), &(Ok(None), 0));
+    Tried::RetrySucceeded
+}
+
+/// Has the node of a site forget names, and again if memory ran out, when the site has to be as before.
+fn try_forgetting<R: Wait + Abort>(rt: &R, alloc: Global, all: &Cluster, site: &Site) -> Tried {
+    let (at, before) = (row("a site forgets"), state_of(rt, site));
+    let came = all.forget_at(rt, alloc, site);
+    if came == Ok(()) {
+        return Tried::NoFailure;
+    }
+    assert_same(rt, at, &came, &Err(WANTING));
+    assert_same(rt, at, &state_of(rt, site), &before);
+    assert_same(rt, at, &all.forget_at(rt, alloc, site), &Ok(()));
+    Tried::RetrySucceeded
+}
+
+/// Has a client lock `r` at a site, and lock it again if memory ran out, when the site has to be as before. Another one
+/// gives up, and the node forgets. Then the first client unlocks `r`, which needs no memory.
+fn try_site<R: Wait + Clock + Abort>(rt: &R, alloc: Global, all: &Cluster, site: &Site) -> Tried {
     let (at, before) = (row("a client of one site locks"), state_of(rt, site));
     let (mut tried, mut came) = (Tried::NoFailure, refusal_of_lock(rt, alloc, all, site));
     if came == Some(WANTING) {
@@ -75,13 +109,15 @@ fn try_site<R: Wait + Abort>(rt: &R, alloc: Global, all: &Cluster, site: &Site) 
         came = refusal_of_lock(rt, alloc, all, site);
     }
     assert_same(rt, at, &came, &None);
+    tried = both(tried, try_giving_up(rt, alloc, all, site));
+    tried = both(tried, try_forgetting(rt, alloc, all, site));
     let unlocked = all.unlock_at(rt, alloc, site, 1, &OpenGate);
     assert_same(rt, at, &unlocked, &Ok(()));
     tried
 }
 
-/// Makes a cluster of one site, at which a client locks `r` and unlocks it. If it cannot be made, memory ran out.
-fn try_sites<R: Wait + Abort>(rt: &R, alloc: Global) -> Result<Tried, Memory> {
+/// Makes a cluster of one site, at which clients do so. If it cannot be made, memory ran out.
+fn try_sites<R: Wait + Clock + Abort>(rt: &R, alloc: Global) -> Result<Tried, Memory> {
     let clusters = make_cluster(alloc, 1);
     match clusters.first() {
         Some(all) => Ok(try_site(rt, alloc, all, all.site(rt, 1))),

@@ -123,6 +123,14 @@ impl Cluster {
         site.cancel(rt, alloc, client, r(), &self.post, &self.sites, &self.gate)
     }
 
+    /// Has the node of a site forget names.
+    pub fn forget_at<R: Wait>(&self, rt: &R, alloc: Global, site: &Site) -> Result<(), SiteError> {
+        if !is_site_of(site, &self.sites) {
+            return Err(NO_SITE);
+        }
+        site.forget(rt, alloc, &self.sites, &self.gate)
+    }
+
     /// Has a client unlock `r` at a site.
     pub fn unlock_at<R: Wait, G: Gate>(
         &self,
