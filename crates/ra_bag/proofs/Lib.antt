@@ -2,6 +2,6 @@ pub mod Emptied
 pub mod Taken
 pub mod Numbers
 pub mod Told
-pub mod Bits
+pub mod Counts
 mod Calls
 mod Results

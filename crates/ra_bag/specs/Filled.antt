@@ -1,19 +1,28 @@
--- What a bag knows of which slots have a message: a bit for each slot. No public contract mentions it.
-use Rattle.std.specs.Prelude.{◌≡◌, ◌≢◌, ◌<◌, ℕ, List, [], ◌∷◌, ◌++◌, Option, None, length, map, take, drop, replicate}
-use Rattle.std.specs.Option.{is_some}
-use Rattle.std.specs.Simd.Lanes.{mask_l}
+-- What a bag knows of which slots have a message: how many of each block do. No public contract mentions it.
+use Rattle.std.specs.Prelude.{◌≡◌, ◌≢◌, ℕ, List, [], ◌∷◌, ◌++◌, Option, None, length, take, drop, replicate}
 use Rattle.ra_stamp.specs.declared.message.Message.{Message}
 use Rattle.ra_bag.specs.declared.filled.Filled.{Filled}
+use Rattle.ra_bag.specs.Bag.{messages_in}
 
--- each word has the bits of 64 slots, the first one lowest: a bit is set if the slot has a message
-abbrev pub AreBits : List ℕ → List (Option Message) → Type 0
-AreBits [] slots = slots ≡ []
-AreBits (word ∷ words) slots = (word ≡ mask_l (map is_some (take 64 slots))) × AreBits words (drop 64 slots)
+-- how many of the slots have a message
+abbrev pub count_of : List (Option Message) → ℕ
+count_of slots = length (messages_in slots)
 
--- the words have the bits of the slots, after the bits of the slots that are gone
-abbrev pub IsShown : Filled → List (Option Message) → Type 0
-IsShown filled slots = (filled.gone < 64) × AreBits filled.words.items (replicate filled.gone None ++ slots)
+-- the counts are those of blocks of this size, into which the slots are cut; the last block may be smaller
+abbrev pub AreCounts : ℕ → List ℕ → List (Option Message) → Type 0
+AreCounts size [] slots = slots ≡ []
+AreCounts size (count ∷ counts) slots = (count ≡ count_of (take size slots)) × AreCounts size counts (drop size slots)
 
--- if there are any words, they have the bits of the slots
+-- the slots, after this many that are gone
+abbrev pub after_gone : ℕ → List (Option Message) → List (Option Message)
+after_gone gone slots = replicate gone None ++ slots
+
+-- the counts are those of blocks of three sizes, into which the slots are cut with those that are gone
+pub record IsShown (filled : Filled) (slots : List (Option Message)) : Type 0 where
+  pub small : AreCounts 16 filled.small.items (after_gone filled.gone slots)
+  pub middle : AreCounts 256 filled.middle.items (after_gone filled.gone slots)
+  pub large : AreCounts 4096 filled.large.items (after_gone filled.gone slots)
+
+-- if anything is counted, the slots are
 abbrev pub KeepsShown : Filled → List (Option Message) → Type 0
-KeepsShown filled slots = length filled.words.items ≢ 0 → IsShown filled slots
+KeepsShown filled slots = length filled.small.items ≢ 0 → IsShown filled slots

@@ -80,8 +80,9 @@ impl Bag {
     }
 
     /// Returns the message at this place, counted from 0, or `None` past the end. It does not allocate. The cost is
-    /// constant if no slot is empty. Otherwise a step looks at the bits of 64 slots. Only if there was no memory for
-    /// these bits, each slot up to this one is looked at.
+    /// constant if no slot is empty. Otherwise it looks at a count for each 4,096 slots that there were since they were
+    /// counted, and at most at 48 counts and slots more. Only if there was no memory for the counts, it looks at each
+    /// slot up to this one.
     pub fn at(&self, place: u64) -> Option<Message>
         ensures { result ≡ slice_get self.now.items place }
     {
@@ -244,11 +245,10 @@ impl Bag {
     /// allocate.
     ///
     /// If the message is where it was found, the cost is that of `at` for a place, plus that of removing it. Removing
-    /// takes amortized constant time if the message is at an end, or if the bag keeps a bit for each slot. It learns
-    /// these bits after a message was taken from between more than 1,024 others, or looked for among more than 64.
-    /// Otherwise removing takes time linear in the distance from the nearer end. If the message is not the first of
-    /// equal ones, the bag has to learn anew in which slot each message is. If it is not there, the cost is that of
-    /// `take`.
+    /// takes amortized constant time if the message is at an end, or if the bag counts its slots. It counts them after a
+    /// message was taken from between more than 512 others, or looked for among more than 64. Otherwise removing takes
+    /// time linear in the distance from the nearer end. If the message is not the first of equal ones, the bag has to
+    /// learn anew in which slot each message is. If it is not there, the cost is that of `take`.
     #[inline(always)]
     pub fn take_from(&mut self, found: Found, message: &Message)
         requires { Contains self.old.items message.now }
@@ -308,12 +308,8 @@ fn slot_among(slots: &VecDeque<Option<Message>>, filled: &Filled, place: u64) ->
     requires { KeepsShown filled.now slots.now.items }
     ensures { IsSlotAt slots.now.items place result }
 {
-    // For the proof: there are fewer than 2^63 slots.
-    let _ = slots.len();
-    if filled.is_kept() {
-        return filled.nth(place);
-    }
-    nth(slots, place)
+    let (first, more) = filled.skip(place);
+    nth(slots, first, more)
 }
 
 /// Returns a slot that has a message that is equal to this one. Unless this slot or the last one does, it is the first.

@@ -100,13 +100,16 @@ pub fn is_last(slots: &VecDeque<Option<Message>>, message: &Message) -> bool
     has(slots, slots.len().saturating_sub(1), message)
 }
 
-/// Returns the slot of the message at this place among those in the slots, or one past the end if there is no such
-/// message. The cost is linear in the number of slots before it.
-pub fn nth(slots: &VecDeque<Option<Message>>, place: u64) -> usize
-    ensures { IsSlotAt slots.now.items place result }
+/// Returns the slot of the message at a place among those in the slots, or one past the end if there is no such
+/// message. Before the slot `first` there are all but `more` of the messages before that one. The cost is linear in the
+/// number of slots from `first` on.
+#[inline(always)]
+pub fn nth(slots: &VecDeque<Option<Message>>, first: usize, more: u64) -> usize
+    ensures { (place : ℕ) → more + length (messages_in (take first slots.now.items)) ≡ place
+        → IsSlotAt slots.now.items place result }
 {
-    let mut left = place;
-    for slot in 0..slots.len() {
+    let mut left = more;
+    for slot in first..slots.len() {
         if slots[slot].is_some() {
             if left == 0 {
                 return slot;

@@ -152,9 +152,9 @@ impl<const KEEPS_MARKS: u8> WorldOf<KEEPS_MARKS> {
 
     /// Makes a step as `step` does, but first looks for the message that is to be delivered, lost or repeated at the
     /// place `near`, counted from 0 in the order of sending. There it is found without a search. As long as all
-    /// messages were found this way, at most 1,024 were under way, and none was repeated, taking one is linear in its
+    /// messages were found this way, at most 512 were under way, and none was repeated, taking one is linear in its
     /// distance from the nearer end, and `message_at` takes constant time. Among more, taking one takes amortized
-    /// constant time, and `message_at` looks through a bit for each message. After a repeat, the first of equal
+    /// constant time, and `message_at` goes through counts of thousands of messages. After a repeat, the first of equal
     /// messages is taken, wherever it is.
     ///
     /// # Errors
@@ -216,7 +216,7 @@ impl<const KEEPS_MARKS: u8> WorldOf<KEEPS_MARKS> {
 
     /// Returns the message under way at this place, counted from 0 in the order of sending, or `None` past the end. It
     /// does not allocate. The cost is constant if `step_near` found the messages taken so far at their places and at
-    /// most 1,024 were under way, and otherwise at most linear in the number of messages under way.
+    /// most 512 were under way, and otherwise at most linear in the number of messages under way.
     pub fn message_at(&self, place: u64) -> Option<Message>
         ensures value { (left : List Message) × LeavesUnderWay self.now.moves left
             × (result ≡ slice_get left place) }

@@ -179,11 +179,11 @@ fn growth_of_a_bag(rt: HostRuntime) {
 }
 
 /// What is compared after messages were taken.
-const KEEPS: &str = "keeps a bit for each slot";
+const KEEPS: &str = "counts its slots";
 
-/// Takes a message, and returns whether the bag keeps a bit for each slot: only then does a later message keep its
-/// slot. Whether the bag also has an index of its messages does not show here.
-fn keeps_bits(rt: &impl Abort, label: &str, bag: &mut Bag, taken: u64, later: u64) -> bool {
+/// Takes a message, and returns whether the bag counts its slots: only then does a later message keep its slot. Whether
+/// the bag also has an index of its messages does not show here.
+fn counts_slots(rt: &impl Abort, label: &str, bag: &mut Bag, taken: u64, later: u64) -> bool {
     let before = bag.find(&asked(later), 0);
     takes(rt, label, bag, taken);
     bag.find(&asked(later), 0) == before
@@ -207,15 +207,15 @@ fn try_three_times(rt: &(impl Abort + AllocGlobal), bag: &mut Bag) -> Tried {
 }
 
 /// Puts 268 messages into a bag three times, has it learn the slot of each one, and takes one of each of the first
-/// 238. If the bag kept a bit for each slot before, it does so after. If there is no bag, memory ran out.
+/// 238. If the bag counted its slots before, it does so after. If there is no bag, memory ran out.
 fn try_equal(rt: &(impl Abort + AllocGlobal)) -> Result<Tried, Memory> {
     let (label, mut bag) = ("a bag with equal messages", new_bag(rt)?);
     let put_all = try_three_times(rt, &mut bag);
     assert_finds(rt, label, &mut bag, 70, true);
     let room = try_reserve(rt, &mut bag, 0, 268);
-    let kept = keeps_bits(rt, label, &mut bag, 248, 258);
+    let kept = counts_slots(rt, label, &mut bag, 248, 258);
     takes_one_of_each(rt, label, &mut bag, 0, 238);
-    let keeps = keeps_bits(rt, label, &mut bag, 249, 258);
+    let keeps = counts_slots(rt, label, &mut bag, 249, 258);
     assert_same(rt, part(label, KEEPS), &keeps, &kept);
     assert_same(rt, row(label), &bag.len(), &564);
     Ok(both(put_all, room))
@@ -277,8 +277,8 @@ fn growth_of_a_bag_of_equal_messages_takes_no_more(rt: HostRuntime) {
 }
 
 /// Puts 3,000 messages into a bag, has it learn in which slot each one is, and takes more than half of them from after
-/// the first, so that it is closed up while more than 1,024 are left. Closing up needs no memory for the bits: if the
-/// bag kept one for each slot before, it does so after. If no bag is made, memory ran out.
+/// the first, so that it is closed up while more than 512 are left. Closing up needs no memory for the counts: if the
+/// bag counted its slots before, it does so after. If no bag is made, memory ran out.
 fn try_closed_up(rt: &(impl Abort + AllocGlobal)) -> Result<Tried, Memory> {
     let (label, mut bag) = ("a bag that is closed up", new_bag(rt)?);
     let mut list = Messages::new(rt.alloc());
@@ -290,9 +290,9 @@ fn try_closed_up(rt: &(impl Abort + AllocGlobal)) -> Result<Tried, Memory> {
         Ok(()) => Tried::NoFailure,
         Err(Memory) => Tried::RetrySucceeded,
     };
-    let kept = keeps_bits(rt, label, &mut bag, 2_950, 2_960);
+    let kept = counts_slots(rt, label, &mut bag, 2_950, 2_960);
     takes_one_of_each(rt, label, &mut bag, 1, 1_600);
-    let keeps = keeps_bits(rt, label, &mut bag, 2_951, 2_960);
+    let keeps = counts_slots(rt, label, &mut bag, 2_951, 2_960);
     assert_same(rt, part(label, KEEPS), &keeps, &kept);
     assert_same(rt, row(label), &bag.len(), &1_396);
     Ok(both(pushed, both(put, room)))

@@ -7,7 +7,7 @@ use Rattle.ra_bag.proofs.Emptied.{emptied, removed, last_removed, length_without
 use Rattle.ra_stamp.specs.contracts.message.MessagePartialEq.TheImpl.{eq-value}
 use Rattle.ra_bag.specs.Filled.{KeepsShown}
 use Rattle.ra_bag.specs.Places.{IsTold}
-use Rattle.ra_bag.proofs.Bits.{shown_without_last}
+use Rattle.ra_bag.proofs.Counts.{shown_without_last}
 use Rattle.ra_bag.proofs.Told.{told_without_last, first_emptied}
 use Rattle.ra_bag.proofs.bag.remove_slot.Goals as goal
 

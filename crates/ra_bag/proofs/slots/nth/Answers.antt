@@ -7,7 +7,7 @@ use Rattle.ra_bag.proofs.slots.nth.Goals.{then-is_some+else-left-eq0, else-is_so
 use Rattle.ra_bag.proofs.slots.nth.Goals as goal
 
 pub returns-then-left-eq0 : goal.returns-then-left-eq0
-returns-then-left-eq0 c =
+returns-then-left-eq0 c = λ place is_place.
     let slots = c.args.slots.now.items in
     let i = c.loop-slot.slot in
     let lt : i < length slots = search rules in
@@ -15,7 +15,7 @@ returns-then-left-eq0 c =
     let is : is_some c.index.result.now ≡ true = search rules in
     let some = ap is_some (get_or_default slots i None c.index.result.now lt ∙ kept) ∙ is in
     let zero : c.loop-slot.left ≡ 0 = search rules in
-    at_slot slots i c.args.place lt some (omega (arith, c.loop-slot.invariant.left, zero))
+    at_slot slots i place lt some (omega (arith, is_place, c.loop-slot.invariant.left, zero))
 
 pub loop-slot-preserved : goal.loop-slot-preserved
 loop-slot-preserved c =
@@ -37,9 +37,9 @@ loop-slot-preserved c =
     ]
 
 pub returns : goal.returns
-returns c =
+returns c = λ place is_place.
     let slots = c.args.slots.now.items in
     let end : length slots ≤ c.loop-slot.slot = search rules in
     let len : c.len.result ≡ length slots = search rules in
-    at_end slots c.args.place c.len.result (omega (arith, len))
-    (omega (arith, c.loop-slot.invariant.left, ap (λ l. length (messages_in l)) (take_all c.loop-slot.slot slots end)))
+    at_end slots place c.len.result (omega (arith, len))
+    (omega (arith, is_place, c.loop-slot.invariant.left, ap (λ l. length (messages_in l)) (take_all c.loop-slot.slot slots end)))

@@ -6,5 +6,5 @@ use Rattle.ra_bag.proofs.slots.nth.Given as goal
 abbrev pub invariant-loop-slot : goal.invariant-loop-slot
 invariant-loop-slot l =
     record {
-      left : l.left + length (messages_in (take l.slot l.slots.items)) ≡ l.fn.place;
+      left : l.left + length (messages_in (take l.slot l.slots.items)) ≡ l.fn.more + length (messages_in (take l.fn.first l.slots.items));
     }

@@ -4,11 +4,11 @@ use Rattle.std.proofs.lemmas.Result.{IfOk-from_err}
 use Rattle.ra_stamp.specs.declared.message.Message.{Message}
 use Rattle.ra_bag.specs.Filled.{IsShown}
 use Rattle.ra_bag.proofs.Calls.{inside, taken_len, all_in}
-use Rattle.ra_bag.proofs.Bits.{none_shown}
+use Rattle.ra_bag.proofs.Counts.{none_shown}
 use Rattle.ra_bag.proofs.filled.Filled.learn_all.Goals as goal
 
 pub loop-slot-init : goal.loop-slot-init
-loop-slot-init c = none_shown c.args.self.now c.requires.words c.requires.gone
+loop-slot-init c = none_shown c.args.self.now c.requires.small c.requires.middle c.requires.large c.requires.gone
 
 pub returns-in_err-add : goal.returns-in_err-add
 returns-in_err-add c = IfOk-from_err c.from_residual.result _ c.from_residual.ensures.0
