@@ -342,7 +342,7 @@ answer_none line is answer h = let clash = sym (answer_uncut line is) ∙ (ap an
 pub one_answer : (line : List ℕ) (a b : Answer) → IsAnswer line a → IsAnswer line b → a ≡ b
 one_answer = takes_once answer_line_of IsAnswerInRange answer_text takes_answer
 
-free : (bytes : List ℕ) → IsFree 10 bytes → All (λ byte. byte ≢ 10) bytes
+pub free : (bytes : List ℕ) → IsFree 10 bytes → All (λ byte. byte ≢ 10) bytes
 free = All-weaker (λ b. (b == 10) ≡ false) (λ b. b ≢ 10) (λ b h. grind (arith, nat_tests))
 
 pub client_feed : (line : List ℕ) (said : ClientLine) → IsClientLine line said → All (λ byte. byte ≢ 10) line

@@ -4,4 +4,5 @@ pub mod Frames
 pub mod Messages
 pub mod HostLines
 pub mod Clients
+pub mod StatusLines
 pub mod Inputs

@@ -3,11 +3,13 @@ ghost use Rattle.std.specs.Prelude.{◌≡◌, ◌≢◌, ℕ, List, All};
 ghost use Rattle.ra_host_text.specs.ClientText.{IsAnswer, IsClientLine};
 ghost use Rattle.ra_host_text.specs.HostText.{IsHeard, IsHostLine, IsMessage, IsUnheard};
 ghost use Rattle.ra_host_text.specs.LineText.{Input, IsInput};
+ghost use Rattle.ra_host_text.specs.StatusText.{IsStatusInRange, status_text};
 ghost use Rattle.ra_host_text.specs.declared.answer.Answer.{Answer};
 ghost use Rattle.ra_host_text.specs.declared.client_line.ClientLine.{ClientLine};
 ghost use Rattle.ra_host_text.specs.declared.host_line.HostLine.{HostLine};
 ghost use Rattle.ra_host_text.specs.declared.host_line.message_fault.MessageFault.{MessageFault};
 ghost use Rattle.ra_host_text.specs.declared.host_message.HostMessage.{HostMessage};
+ghost use Rattle.ra_host_text.specs.declared.status_line.StatusLine.{StatusLine};
 
 use ra_frame::round_trip;
 
@@ -35,4 +37,5 @@ pub fn lines_are_read_in_one_way()
     // What clients say and what they are answered has no line feed.
     ensures client_feed { (line : List ℕ) (said : ClientLine) → IsClientLine line said → All (λ byte. byte ≢ 10) line }
     ensures answer_feed { (line : List ℕ) (answer : Answer) → IsAnswer line answer → All (λ byte. byte ≢ 10) line }
+    ensures status_feed { (line : StatusLine) → IsStatusInRange line → All (λ byte. byte ≢ 10) (status_text line) }
 {}

@@ -11,6 +11,7 @@ mod input_line;
 mod laws;
 mod nonce;
 mod output_line;
+mod status_line;
 mod wait;
 
 pub use answer::{Answer, Refusal};
@@ -24,6 +25,7 @@ pub use laws::{host_lines_are_read_in_one_way, lines_are_read_in_one_way};
 pub use nonce::{nonce_of, push_nonce};
 pub use output_line::{
     push_answer_line, push_client_line, push_close_line, push_fatal_line, push_note_line,
-    push_peer_line, push_ready_line,
+    push_peer_line, push_ready_line, push_status_line,
 };
+pub use status_line::StatusLine;
 pub use wait::Wait;

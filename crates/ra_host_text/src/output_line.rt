@@ -5,8 +5,9 @@ ghost use Rattle.ra_text.specs.Lines.{field};
 ghost use Rattle.ra_host_text.specs.ClientText.{answer_text};
 ghost use Rattle.ra_host_text.specs.HostText.{IsHostLine, IsUnfit};
 ghost use Rattle.ra_host_text.specs.LineText.{client_text, fatal_word, peer_text};
+ghost use Rattle.ra_host_text.specs.StatusText.{status_text};
 
-use crate::{Answer, Fatal, HostLine, Unfit};
+use crate::{Answer, Fatal, HostLine, StatusLine, Unfit};
 use ra_text::Draft;
 
 /// Adds the line `peer J TEXT`: a text is to be said to the host that it is for.
@@ -46,6 +47,16 @@ pub fn push_answer_line(text: &mut Draft, client: u64, answer: &Answer)
     push_client(text, "client", client);
     text.push(" ");
     answer.push(text);
+    text.end_line();
+}
+
+/// Adds the line `client C TEXT`: a line of what the host knows is to be said to a client.
+pub fn push_status_line(text: &mut Draft, client: u64, line: &StatusLine)
+    ensures { Adds text.old (client_text client (status_text line.now) ++ codes "\n") text.new }
+{
+    push_client(text, "client", client);
+    text.push(" ");
+    line.push(text);
     text.end_line();
 }
 
