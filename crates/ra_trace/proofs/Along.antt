@@ -2,8 +2,11 @@
 use Rattle.std.proofs.Common.{◌≡◌, ◌≢◌, ◌⊎◌, ℕ, ◌+◌, ◌-◌, ◌<◌, ◌≤◌, List, [], ◌∷◌, ◌++◌, length, Option, Some, None, refl, sym, ap, ◌∙◌, subst, inl, inr, arith, append_assoc, length-append}
 use Rattle.std.specs.Prelude.{flat_map, Result, Ok, Err, IfOk, IfErr, IfSome, IsNone}
 use Rattle.std.specs.Io.KnownBytes.{Consumes, IsAtEnd}
+use Rattle.std.proofs.lemmas.List.{append-nil}
 use Rattle.std.proofs.lemmas.List.Elements.{All-nil}
 use Rattle.std.proofs.lemmas.Grind.{flat_map-append}
+use Rattle.ra_stamp.specs.declared.entry.Mark.{Mark}
+use Rattle.ra_table.specs.Table.{TableRun}
 use Rattle.ra_world.specs.Run.{marks_of}
 use Rattle.ra_world.specs.Quiet.{requests_in}
 use Rattle.ra_world.specs.Traffic.{sent_by}
@@ -21,7 +24,7 @@ use Rattle.ra_trace.specs.declared.checker.Checker.{Checker}
 use Rattle.ra_trace.specs.declared.line.version.Version.{Version}
 use Rattle.ra_trace.specs.Forms.{IsReadable, BeginsReadable}
 use Rattle.ra_trace.specs.TraceText.{IsLine, line_text, trace_lines}
-use Rattle.ra_trace.specs.Verdict.{IsTracePrefix, marks_due, IsFirst, IsWrong}
+use Rattle.ra_trace.specs.Verdict.{IsTracePrefix, marks_due, marks_in, IsFirst, IsWrong}
 use Rattle.ra_trace.specs.Reading.{IsWhole, AreRight, IsOpenLine, IsOpen, IsOver, HasBegun, HasRead, Judges, StopsAfter, Answers}
 use Rattle.ra_trace.specs.NextLine.{EndsSo, TakesBytes, FailsWithin, IsOverLine, HasNone, EndsText}
 use Rattle.ra_trace.specs.Checking.{all_due, IsCheckerOf, Takes, Refuses, Allows, Judged}
@@ -29,7 +32,7 @@ use Rattle.ra_trace.specs.Along.{HasTaken, IsAlong, IsDone, Opens, Turns, SomeTa
 use Rattle.ra_trace.specs.Below.{LawsBelow}
 use Rattle.ra_trace.proofs.Lines.{begins_once}
 use Rattle.ra_trace.proofs.Versions.{begins_readable}
-use Rattle.ra_trace.proofs.Prefixes.{prefix_and_last, no_trace}
+use Rattle.ra_trace.proofs.Prefixes.{marks_so_far, prefix_and_last, no_trace}
 use Rattle.ra_trace.proofs.Ends.{feed_is_over, some_bytes_at_feed}
 
 -- bytes that are taken after others are taken with them
@@ -258,6 +261,14 @@ prefix_at_end : (checker : Checker) (prefix : List Line) → IsCheckerOf checker
 prefix_at_end checker prefix checker_is none =
     subst (λ ms. IsTracePrefix checker.version checker.world.count checker.world.start checker.world.moves ms prefix) none checker_is.prefix
 
+-- no mark of the run is still to come
+all_marks : (checker : Checker) (prefix : List Line) → IsCheckerOf checker prefix → all_due checker ≡ marks_due []
+    → marks_in prefix ≡ marks_of checker.world.moves
+all_marks checker prefix checker_is none =
+    let w = checker.world in
+    sym (append-nil (marks_in prefix))
+    ∙ marks_so_far checker.version w.count w.start w.moves (marks_due []) prefix (prefix_at_end checker prefix checker_is none)
+
 done_by : (limit left : ℕ) (old now new : Option (List ℕ)) (checker : Checker) (number : ℕ) (bytes : List ℕ)
     → IsAlong limit left old now checker number → TakesBytes left now new bytes → BeginsReadable bytes Last [] → all_due checker ≡ marks_due []
     → IsDone limit (left - length bytes) old new checker (number + 1)
@@ -272,6 +283,7 @@ done_by limit left old now new checker number bytes along taken begins none =
       number_is = omega (arith, along.number_is, length-append along.prefix (Last ∷ []));
       trace = trace;
       lines = lines;
+      table = subst (λ (marks : List Mark). TableRun marks checker.table) (all_marks checker along.prefix along.checker_is none) along.checker_is.table;
     }
 
 done_by_last : (limit left : ℕ) (old now new : Option (List ℕ)) (checker after : Checker) (number : ℕ) (bytes : List ℕ)

@@ -30,3 +30,4 @@ pub mod MarksAlong
 pub mod Following
 pub mod MarksFollowing
 pub mod TraceFollowing
+pub mod Complete

@@ -1,8 +1,8 @@
 -- How far a checker has come in a mark log.
 use Rattle.std.proofs.Common.{◌≡◌, ◌≢◌, ℕ, ◌+◌, ◌-◌, ◌≤◌, List, [], ◌∷◌, ◌++◌, length, All, Option, refl, sym, ap, ◌∙◌, subst, inl, inr, arith, length-append, codes}
-use Rattle.std.specs.Prelude.{◌⊎◌, Some, None, Result, Ok, Err, IfOk}
+use Rattle.std.specs.Prelude.{◌⊎◌, Some, None, Result, Ok, Err, IfOk, IfSome}
 use Rattle.std.specs.Io.KnownBytes.{Consumes, IsAtEnd}
-use Rattle.std.proofs.lemmas.List.{nil_from_length}
+use Rattle.std.proofs.lemmas.List.{append-nil, nil_from_length}
 use Rattle.std.proofs.lemmas.List.Elements.{All-nil, All-cons, All-head, All-tail}
 use Rattle.std.proofs.lemmas.Grind.{flat_map-append}
 use Rattle.ra_stamp.specs.declared.entry.Mark.{Mark}
@@ -29,7 +29,7 @@ use Rattle.ra_trace.specs.NextLine.{EndsSo, TakesBytes, FailsWithin, HasNone, Is
 use Rattle.ra_trace.specs.TraceText.{IsMarkLine}
 use Rattle.ra_trace.specs.Marks.{marks_text, grants_in, IsMarkRun, TableRefuses}
 use Rattle.ra_trace.specs.MarksReading.{HasReadMarks, ShowsMarks, JudgesMarks, StopsAfterMarks, AnswersMarks}
-use Rattle.ra_trace.specs.MarksAlong.{TableLaws, TakesMark, IsLogOf, IsAlongMarks, JudgedMark, JudgedOther, JudgedLine, IsMissing, HasLinesBefore, TurnsMarks, SomeMarkTaken}
+use Rattle.ra_trace.specs.MarksAlong.{TableLaws, TakesMark, IsLogOf, IsAlongMarks, JudgedMark, JudgedOther, JudgedLine, IsMissing, HasLinesBefore, HasTakenLog, TurnsMarks, SomeMarkTaken}
 use Rattle.ra_trace.proofs.Along.{consumed_both, nothing_taken}
 use Rattle.ra_trace.proofs.Ends.{feed_is_over, some_bytes_at_feed}
 use Rattle.ra_trace.proofs.Lines.{begins_once}
@@ -147,16 +147,32 @@ lines_before limit None new requests grants marks rest number read how shows is 
 lines_before limit (Some input) new requests grants marks rest number read how shows is =
     (marks, read.run, (all_read limit input new requests grants (marks, rest, read, how, shows)).input_is, is)
 
+-- and these are all of it
+whole_input : (limit : ℕ) (old new : Option (List ℕ)) (requests grants : ℕ) (marks : List Mark) (rest : List ℕ) → HasReadMarks limit old new marks rest
+    → (IsOverLine rest ⊎ (IsOpenLine rest × IsAtEnd new)) → ShowsMarks marks rest (Valid requests grants) → IfSome old (λ input. input ≡ marks_text marks)
+whole_input limit None new requests grants marks rest read how shows = tt
+whole_input limit (Some input) new requests grants marks rest read how shows =
+    (all_read limit input new requests grants (marks, rest, read, how, shows)).input_is
+
+whole_taken : (old new : Option (List ℕ)) (marks : List Mark) (rest : List ℕ) → Consumes old new (marks_text marks ++ rest) → rest ≡ []
+    → Consumes old new (marks_text marks)
+whole_taken old new marks rest taken none =
+    subst (Consumes old new) (ap (λ (bytes : List ℕ). marks_text marks ++ bytes) none ∙ append-nil (marks_text marks)) taken
+
 -- nothing comes next
 pub end_there : (limit left : ℕ) (old now new : Option (List ℕ)) (log : MarkLog) (number : ℕ) (bytes : List ℕ)
     → IsAlongMarks limit left old now log number → TakesBytes left now new bytes → HasNone bytes new → bytes ≡ []
-    → JudgesMarks limit old new (Valid log.requests log.grants) × HasLinesBefore old number
+    → JudgesMarks limit old new (Valid log.requests log.grants) × HasLinesBefore old number × HasTakenLog old new log
 end_there limit left old now new log number bytes along taken none nothing =
     let so_far = along.so_far in
     let read = has_read limit left old now new log number bytes along taken.0 taken.1 in
     let judges : JudgesMarks limit old new (Valid log.requests log.grants) =
     (along.marks, bytes, read, none.1, (nothing, so_far.requests_is, so_far.grants_is)) in
-    (judges, lines_before limit old new log.requests log.grants along.marks bytes number read none.1 (nothing, so_far.requests_is, so_far.grants_is) along.number_is)
+    let shows : ShowsMarks along.marks bytes (Valid log.requests log.grants) = (nothing, so_far.requests_is, so_far.grants_is) in (
+      judges,
+      lines_before limit old new log.requests log.grants along.marks bytes number read none.1 shows along.number_is,
+      (along.marks, so_far, whole_taken old new along.marks bytes read.taken nothing, whole_input limit old new log.requests log.grants along.marks bytes read none.1 shows),
+    )
 
 some_at_feed : (bytes : List ℕ) (new : Option (List ℕ)) → EndsSo Feed bytes new → bytes ≢ []
 some_at_feed bytes new ended = λ none. let some = some_bytes_at_feed bytes new ended in absurd (omega (arith, some, ap length none))

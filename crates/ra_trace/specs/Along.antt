@@ -1,6 +1,8 @@
 -- How far a checker has come in what it reads. No public contract speaks of it.
 use Rattle.std.specs.Prelude.{◌≡◌, ℕ, ◌+◌, ◌-◌, ◌≤◌, List, Option, Some, None, Result, Ok, Err, flat_map, length}
 use Rattle.std.specs.Io.KnownBytes.{Consumes}
+use Rattle.ra_table.specs.Table.{TableRun}
+use Rattle.ra_world.specs.Run.{marks_of}
 use Rattle.ra_trace.specs.declared.error.TraceError.{TraceError}
 use Rattle.ra_trace.specs.declared.checker.Checker.{Checker}
 use Rattle.ra_trace.specs.declared.checker.Judgement.{Judgement}
@@ -33,6 +35,7 @@ pub record IsDone (limit left : ℕ) (old now : Option (List ℕ)) (checker : Ch
   pub trace : IsTraceIn checker.version checker.world.count checker.world.start checker.world.moves
       (flat_map line_text prefix)
   pub lines : prefix ≡ trace_lines checker.version checker.world.count checker.world.start checker.world.moves
+  pub table : TableRun (marks_of checker.world.moves) checker.table
 
 -- what happens at the first line, of this many bytes: the checker has taken it, or the line is wrong, or a fault came
 abbrev pub Opens : ℕ → Option (List ℕ) → Option (List ℕ) → ℕ → Result (Option Checker) TraceError → Type 0

@@ -17,3 +17,5 @@ pub mod Check
 pub mod MarksAlong
 pub mod Following
 pub mod FollowingAlong
+pub mod Complete
+pub mod CompleteAlong

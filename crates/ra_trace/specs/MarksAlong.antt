@@ -84,6 +84,11 @@ abbrev pub HasLinesBefore : Option (List ℕ) → ℕ → Type 0
 HasLinesBefore old number = IfSome old (λ input.
     (marks : List Mark) × IsMarkRun marks × (input ≡ marks_text marks) × (number ≡ length marks + 1))
 
+-- the log has taken these marks, whose lines are all of the input if that is known
+abbrev pub HasTakenLog : Option (List ℕ) → Option (List ℕ) → MarkLog → Type 0
+HasTakenLog old new log = (marks : List Mark) × IsLogOf log marks × Consumes old new (marks_text marks)
+    × IfSome old (λ input. input ≡ marks_text marks)
+
 -- what happens at the line with this number, of this many bytes: the log has taken it, or the text is at its end, or
 -- the line is wrong, or a fault occurred
 abbrev pub TurnsMarks : ℕ → ℕ → Option (List ℕ) → Option (List ℕ) → MarkLog → ℕ → ℕ → Result MarkJudgement TraceError
@@ -92,6 +97,7 @@ TurnsMarks limit left old new after number count (Ok Right) =
     IsAlongMarks limit (left - count) old new after (number + 1)
 TurnsMarks limit left old new after number count (Ok End) =
     JudgesMarks limit old new (Valid after.requests after.grants) × HasLinesBefore old number
+    × HasTakenLog old new after
 TurnsMarks limit left old new after number count (Ok (Wrong why)) = JudgesMarks limit old new (Invalid number why)
 TurnsMarks limit left old new after number count (Err fault) = AnswersMarks limit old new (Err fault)
 

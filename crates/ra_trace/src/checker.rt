@@ -2,7 +2,7 @@ pub mod check_text;
 pub mod trace_watcher;
 pub mod verdict;
 
-ghost use Rattle.std.specs.Prelude.{◌≡◌, ◌≢◌, ◌<◌, ◌+◌, ◌^◌, ◌⊎◌, List, ◌∷◌, [], Ok, Some, false, drop, length, slice_get, IfOk, IfErr, IfSome, IsNone, IsTrue};
+ghost use Rattle.std.specs.Prelude.{◌≡◌, ◌≢◌, ◌==◌, ◌&&◌, ◌<◌, ◌+◌, ◌^◌, ◌⊎◌, List, ◌∷◌, [], Ok, Some, false, drop, length, slice_get, IfOk, IfErr, IfSome, IsNone, IsTrue, nat_lt};
 ghost use Rattle.ra_stamp.specs.declared.entry.Mark.{Mark};
 ghost use Rattle.ra_stamp.specs.declared.message.Message.{Message};
 ghost use Rattle.ra_trace.specs.declared.checker.verdict.Cause.{Cause};
@@ -50,8 +50,17 @@ pub enum Judgement {
     Wrong(Cause),
 }
 
+/// Returns whether something was requested and nothing is left, by how many requests were made, whether none of them
+/// waits or holds, and how many messages are under way and clients are queued.
+fn nothing_is_left(requests: u128, is_idle: bool, under_way: u64, queued: u128) -> bool
+    ensures { result ≡ (nat_lt 0 requests && is_idle && (under_way == 0) && (queued == 0)) }
+{
+    requests > 0 && is_idle && under_way == 0 && queued == 0
+}
+
 impl Checker {
     ghost use Rattle.ra_trace.specs.Checking.{all_due, due_of, unsent_of, HasSameDue, Judged, IsCheckerOf};
+    ghost use Rattle.ra_trace.specs.Complete.{IsCompleteBy};
     ghost use Rattle.ra_trace.specs.Reading.{HasBegun};
 
     /// Makes the checker after this line, or answers `None` if it is not a first line of its version.
@@ -139,6 +148,19 @@ impl Checker {
                 None => Ok(Judgement::Last),
             },
         }
+    }
+
+    /// Returns whether the run so far is complete: something was requested, no request waits or holds, no message is
+    /// under way, and no client is queued. It does not allocate. The cost is linear in the numbers of names and nodes.
+    pub fn is_complete(&self) -> bool
+        ensures { IsCompleteBy self.now.world.count self.now.world.start self.now.world.moves self.now.table result }
+    {
+        nothing_is_left(
+            self.world.requests(),
+            self.table.is_idle(),
+            self.world.under_way(),
+            self.world.queued(),
+        )
     }
 
     /// Returns the line that is due next, or `None` if nothing is due.

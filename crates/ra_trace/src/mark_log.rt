@@ -8,7 +8,10 @@ ghost use Rattle.std.specs.Io.KnownBytes.{Consumes};
 ghost use Rattle.ra_stamp.specs.declared.entry.Mark.{Mark};
 ghost use Rattle.ra_world.specs.Quiet.{requests_in};
 ghost use Rattle.ra_trace.specs.declared.mark_log.marks_verdict.MarksVerdict.{MarksVerdict};
+ghost use Rattle.ra_table.specs.Table.{empty_table};
 ghost use Rattle.ra_trace.specs.Check.{ChecksLog};
+ghost use Rattle.ra_trace.specs.Complete.{TellsLog};
+ghost use Rattle.ra_trace.specs.CompleteAlong.{LogAtEnd, MeetsLogBy};
 ghost use Rattle.ra_trace.specs.Marks.{grants_in};
 ghost use Rattle.ra_trace.specs.MarksAlong.{IsAlongMarks, JudgedLine, JudgedMark, SomeMarkTaken, TurnsMarks};
 
@@ -125,33 +128,39 @@ fn take_next<R: Read, S: LineSource<R>>(
     }
 }
 
-/// Checks a log as `check_marks_within` does, and takes the bytes from the reader in the way of `S`.
+/// Returns whether a log with this result passes, by what is known after all of it if it is valid: it is, and it is
+/// complete if that is demanded.
+fn passes_at_end(demanded: bool, log: &MarkLog, checked: &Result<MarksVerdict, TraceError>) -> bool
+    ensures { MeetsLogBy demanded log.now checked.now result }
+{
+    match checked {
+        Ok(MarksVerdict::Valid { .. }) => { !demanded || (log.requests > 0 && log.table.is_idle()) }
+        _ => false,
+    }
+}
+
+/// Checks a log as `check_marks_within` does, in a log that has taken no line yet, and takes the bytes from the reader
+/// in the way of `S`. If the text is valid, the log has then taken all of it.
 ///
 /// # Errors
 ///
 /// Those of `check_marks_within`.
-fn check_by<R: Read, S: LineSource<R>>(
-    alloc: Global,
+fn check_in<R: Read, S: LineSource<R>>(
+    log: &mut MarkLog,
     reader: &mut R,
     limit: u64,
 ) -> Result<MarksVerdict, TraceError>
-    requires { limit ≤ 16777216 }
-    ensures { ChecksLog limit (R.remaining reader.old) (R.remaining reader.new) result }
+    requires most { limit ≤ 16777216 }
+    requires empty { log.old ≡ record { table = empty_table; requests = 0; grants = 0 } }
+    ensures checks { ChecksLog limit (R.remaining reader.old) (R.remaining reader.new) result }
+    ensures end { LogAtEnd (R.remaining reader.old) (R.remaining reader.new) log.new result }
 {
-    let Ok(table) = Table::new(alloc) else {
-        return Err(TraceError::Memory);
-    };
-    let mut log = MarkLog {
-        table,
-        requests: 0,
-        grants: 0,
-    };
     let mut taken = 0;
     let mut room = LineRoom::new();
     let mut left = limit as usize;
     let mut line = 1;
     loop {
-        let next = match take_next::<R, S>(reader, &mut room, &mut taken, &mut log, left) {
+        let next = match take_next::<R, S>(reader, &mut room, &mut taken, log, left) {
             Ok(next) => next,
             Err(fault) => return Err(fault),
         };
@@ -167,6 +176,32 @@ fn check_by<R: Read, S: LineSource<R>>(
         line += 1;
         left -= taken;
     }
+}
+
+/// Checks a log as `check_marks_within` does, takes the bytes from the reader in the way of `S`, and tells in `passes`
+/// whether the log is valid and, if that is demanded, complete.
+///
+/// # Errors
+///
+/// Those of `check_marks_within`.
+fn check_by<R: Read, S: LineSource<R>>(
+    alloc: Global,
+    reader: &mut R,
+    limit: u64,
+    demanded: bool,
+    passes: &mut bool,
+) -> Result<MarksVerdict, TraceError>
+    requires { limit ≤ 16777216 }
+    ensures checks { ChecksLog limit (R.remaining reader.old) (R.remaining reader.new) result }
+    ensures end { TellsLog demanded (R.remaining reader.old) (R.remaining reader.new) result passes.new }
+{
+    let Ok(table) = Table::new(alloc) else {
+        return Err(TraceError::Memory);
+    };
+    let mut log = MarkLog::new(table);
+    let checked = check_in::<R, S>(&mut log, reader, limit);
+    *passes = passes_at_end(demanded, &log, &checked);
+    checked
 }
 
 /// Checks a log of marks: lines such as `request 1 7 r X 3`, `enter 1 7 r X 3` and `leave 1 7 r X 3`, each with node,
@@ -195,7 +230,7 @@ pub fn check_marks_within<R: Read>(
     requires { limit ≤ 16777216 }
     ensures { ChecksLog limit (R.remaining reader.old) (R.remaining reader.new) result }
 {
-    check_by::<R, ByBytes>(alloc, reader, limit)
+    check_by::<R, ByBytes>(alloc, reader, limit, false, &mut false)
 }
 
 /// Checks a log of marks of at most 16,777,216 bytes, as `check_marks_within` does.
@@ -222,5 +257,25 @@ pub fn check_marks_buffered<B: BufRead>(
 ) -> Result<MarksVerdict, TraceError>
     ensures { ChecksLog 16777216 (B.remaining reader.old) (B.remaining reader.new) result }
 {
-    check_by::<B, FromBuffer>(alloc, reader, MAX_TEXT)
+    check_by::<B, FromBuffer>(alloc, reader, MAX_TEXT, false, &mut false)
+}
+
+/// Checks a log of marks as [`check_marks_buffered`] does, and tells in `passes` whether it passes: it is valid and, if
+/// that is demanded, complete. A log is complete if something was requested in it and, at its end, no request waits or
+/// holds. If there is no verdict, nothing is promised of `passes`. The cost is that of `check_marks_buffered`, and if
+/// it is demanded also linear in the number of names.
+///
+/// # Errors
+///
+/// Those of `check_marks_within`.
+pub fn check_marks_buffered_with_end<B: BufRead>(
+    alloc: Global,
+    reader: &mut B,
+    demanded: bool,
+    passes: &mut bool,
+) -> Result<MarksVerdict, TraceError>
+    ensures checks { ChecksLog 16777216 (B.remaining reader.old) (B.remaining reader.new) result }
+    ensures end { TellsLog demanded (B.remaining reader.old) (B.remaining reader.new) result passes.new }
+{
+    check_by::<B, FromBuffer>(alloc, reader, MAX_TEXT, demanded, passes)
 }

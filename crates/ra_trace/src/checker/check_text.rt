@@ -8,6 +8,8 @@ ghost use Rattle.ra_trace.specs.declared.checker.verdict.Verdict.{Verdict};
 ghost use Rattle.ra_trace.specs.Along.{IsAlong, Opens, SomeTaken, Turns};
 ghost use Rattle.ra_trace.specs.Check.{ChecksTrace};
 ghost use Rattle.ra_trace.specs.Checking.{HasSameDue};
+ghost use Rattle.ra_trace.specs.Complete.{TellsTrace};
+ghost use Rattle.ra_trace.specs.CompleteAlong.{AtEnd, MeetsBy};
 ghost use Rattle.ra_trace.specs.NextLine.{EndsText};
 ghost use Rattle.ra_trace.specs.Reading.{Answers};
 
@@ -112,7 +114,8 @@ fn take_next<R: Read, S: LineSource<R>>(
 }
 
 /// Returns the verdict of a text whose first line has this many bytes, from the checker after that line. If a line is
-/// wrong for its sends or its marks, `due` becomes the line that was due there.
+/// wrong for its sends or its marks, `due` becomes the line that was due there. If the text is valid, the checker has
+/// then taken all of it.
 ///
 /// # Errors
 ///
@@ -133,6 +136,9 @@ fn verdict_after<R: Read, S: LineSource<R>>(
     ensures due { (old : Option (List ℕ))
         → IsAlong limit (limit - first) old (R.remaining reader.old) checker.old 2
         → TellsDue old result due.new }
+    ensures end { (old : Option (List ℕ))
+        → IsAlong limit (limit - first) old (R.remaining reader.old) checker.old 2
+        → AtEnd old (R.remaining reader.new) checker.new result }
 {
     let mut left = limit - first;
     let mut number = 2;
@@ -225,6 +231,17 @@ pub fn check_buffered<B: BufRead>(alloc: Global, reader: &mut B) -> Result<Verdi
     check_buffered_with_due(alloc, reader, &mut None)
 }
 
+/// Returns whether a text with this result passes, by the checker that has taken all of it if it is valid: it is, and
+/// it is complete if that is demanded.
+fn passes_at_end(demanded: bool, checker: &Checker, checked: &Result<Verdict, TraceError>) -> bool
+    ensures { MeetsBy demanded checker.now checked.now result }
+{
+    match checked {
+        Ok(Verdict::Valid { .. }) => !demanded || checker.is_complete(),
+        _ => false,
+    }
+}
+
 /// Checks the text of a trace as [`check_buffered`] does. If the verdict is that a line is wrong for its sends or its
 /// marks (`Cause::Sends`, `Cause::Marks`), `due` becomes the line of the next message or mark of the step before, which
 /// should come there, or `None` if all of them came before. For any other result nothing is promised of `due`.
@@ -240,17 +257,44 @@ pub fn check_buffered_with_due<B: BufRead>(
     ensures checks { ChecksTrace 16777216 (B.remaining reader.old) (B.remaining reader.new) result }
     ensures due { TellsDue (B.remaining reader.old) result due.new }
 {
+    check_buffered_with_end(alloc, reader, false, due, &mut false)
+}
+
+/// Checks the text of a trace as [`check_buffered_with_due`] does, and tells in `passes` whether it passes: it is valid
+/// and, if that is demanded, complete. A trace is complete if something was requested in it and, at its end, no request
+/// waits or holds, no message is under way, and no client is queued. If there is no verdict, nothing is promised of
+/// `passes`. The cost is that of `check_buffered`, and if it is demanded also linear in the numbers of names and nodes.
+///
+/// # Errors
+///
+/// Those of `check_within`.
+pub fn check_buffered_with_end<B: BufRead>(
+    alloc: Global,
+    reader: &mut B,
+    demanded: bool,
+    due: &mut Option<Line>,
+    passes: &mut bool,
+) -> Result<Verdict, TraceError>
+    ensures checks { ChecksTrace 16777216 (B.remaining reader.old) (B.remaining reader.new) result }
+    ensures due { TellsDue (B.remaining reader.old) result due.new }
+    ensures end { TellsTrace demanded (B.remaining reader.old) (B.remaining reader.new) result passes.new }
+{
     let limit = MAX_TEXT as usize;
     let mut taken = 0;
+    *passes = false;
     match take_first::<B, FromBuffer>(alloc, reader, &mut taken, limit) {
-        Ok(Some(mut checker)) => verdict_after::<B, FromBuffer>(
-            alloc,
-            reader,
-            taken,
-            &mut checker,
-            limit,
-            due,
-        ),
+        Ok(Some(mut checker)) => {
+            let result = verdict_after::<B, FromBuffer>(
+                alloc,
+                reader,
+                taken,
+                &mut checker,
+                limit,
+                due,
+            );
+            *passes = passes_at_end(demanded, &checker, &result);
+            result
+        }
         Ok(None) => Ok(NOT_OPENED),
         Err(fault) => Err(fault),
     }

@@ -2,13 +2,15 @@
 ghost use Rattle.std.specs.Prelude.{◌≡◌, ◌+◌, ◌≤◌, ℕ, List, Option, IfSome};
 ghost use Rattle.ra_table.specs.Table.{empty_table};
 ghost use Rattle.ra_trace.specs.Check.{ChecksLog};
+ghost use Rattle.ra_trace.specs.Complete.{TellsLog};
+ghost use Rattle.ra_trace.specs.CompleteAlong.{LogAtEnd};
 ghost use Rattle.ra_trace.specs.Following.{IsMarksSoFar, TellsMarks, marks_lines};
 ghost use Rattle.ra_trace.specs.FollowingAlong.{IsTold};
 ghost use Rattle.ra_trace.specs.declared.mark_log.marks_watcher.MarksSoFar as counts;
 
 use crate::line::Line;
 use crate::line_source::{FromBuffer, LineRoom};
-use crate::mark_log::{MarkJudgement, MarkLog, take_next};
+use crate::mark_log::{MarkJudgement, MarkLog, passes_at_end, take_next};
 use crate::text_limits::MAX_FOLLOWED;
 use crate::{MarksSoFar, MarksVerdict, MarksWatcher, TraceError};
 use ra_table::Table;
@@ -40,7 +42,8 @@ fn tell_if_due<W: MarksWatcher>(watcher: &mut W, due: &mut u128, every: u64, so_
     }
 }
 
-/// Checks a log as `follow_marks` does, with a log that has taken no line yet.
+/// Checks a log as `follow_marks` does, with a log that has taken no line yet. If the text is valid, the log has then
+/// taken all of it.
 ///
 /// # Errors
 ///
@@ -54,6 +57,7 @@ fn follow_in<B: BufRead, W: MarksWatcher>(
     requires { log.old ≡ record { table = empty_table; requests = 0; grants = 0 } }
     ensures checks { ChecksLog 9223372036854775808 (B.remaining reader.old) (B.remaining reader.new) result }
     ensures tells { TellsMarks every (B.remaining reader.old) result (W.told watcher.old) (W.told watcher.new) }
+    ensures end { LogAtEnd (B.remaining reader.old) (B.remaining reader.new) log.new result }
 {
     let mut taken = 0;
     let mut room = LineRoom::new();
@@ -107,8 +111,34 @@ pub fn follow_marks<B: BufRead, W: MarksWatcher>(
     ensures checks { ChecksLog 9223372036854775808 (B.remaining reader.old) (B.remaining reader.new) result }
     ensures tells { TellsMarks every (B.remaining reader.old) result (W.told watcher.old) (W.told watcher.new) }
 {
-    match Table::new(alloc) {
-        Ok(table) => follow_in(&mut MarkLog::new(table), reader, every, watcher),
-        Err(_) => Err(TraceError::Memory),
-    }
+    follow_marks_with_end(alloc, reader, every, watcher, false, &mut false)
+}
+
+/// Checks a log of marks as [`follow_marks`] does, and tells in `passes` whether it passes: it is valid and, if that is
+/// demanded, complete, as [`check_marks_buffered_with_end`](crate::check_marks_buffered_with_end) says. If there is no
+/// verdict, nothing is promised of `passes`. The cost is that of `follow_marks`, and if it is demanded also linear in
+/// the number of names.
+///
+/// # Errors
+///
+/// Those of `follow_marks`.
+pub fn follow_marks_with_end<B: BufRead, W: MarksWatcher>(
+    alloc: Global,
+    reader: &mut B,
+    every: u64,
+    watcher: &mut W,
+    demanded: bool,
+    passes: &mut bool,
+) -> Result<MarksVerdict, TraceError>
+    ensures checks { ChecksLog 9223372036854775808 (B.remaining reader.old) (B.remaining reader.new) result }
+    ensures tells { TellsMarks every (B.remaining reader.old) result (W.told watcher.old) (W.told watcher.new) }
+    ensures end { TellsLog demanded (B.remaining reader.old) (B.remaining reader.new) result passes.new }
+{
+    let Ok(table) = Table::new(alloc) else {
+        return Err(TraceError::Memory);
+    };
+    let mut log = MarkLog::new(table);
+    let checked = follow_in(&mut log, reader, every, watcher);
+    *passes = passes_at_end(demanded, &log, &checked);
+    checked
 }

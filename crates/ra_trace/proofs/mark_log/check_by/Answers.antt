@@ -1,56 +1,18 @@
-use Rattle.std.proofs.Common.{◌+◌, ◌-◌, Ok, Err}
+use Rattle.std.proofs.Common.{Err}
 use Rattle.ra_trace.specs.declared.error.TraceError.TheVariants.{Memory}
-use Rattle.ra_trace.specs.declared.mark_log.marks_verdict.MarksVerdict.TheVariants.{Valid, Invalid}
-use Rattle.ra_trace.proofs.Along.{few_taken, fewer_left}
+use Rattle.ra_trace.proofs.Complete.{tells_log}
 use Rattle.ra_trace.proofs.MarkInputs.{checked}
-use Rattle.ra_trace.proofs.MarksAlong.{few, no_log, right_turns, some_mark_taken}
+use Rattle.ra_trace.proofs.MarksAlong.{no_log}
 use Rattle.ra_trace.proofs.MarkVerdicts.{one_verdict}
 use Rattle.ra_trace.proofs.TraceLaws.{mark_logs_rest_on_tables}
 use Rattle.ra_trace.proofs.mark_log.check_by.Goals as goal
 
-pub returns-in_default : goal.returns-in_default
-returns-in_default g c =
+pub returns-in_default-clause-checks : goal.returns-in_default-clause-checks
+returns-in_default-clause-checks g c =
     let old = g.R.Read.remaining c.args.reader.now in
     checked c.args.limit old old (one_verdict mark_logs_rest_on_tables) (Err Memory) (no_log mark_logs_rest_on_tables c.args.limit old)
 
-pub overflow_sub-left : goal.overflow_sub-left
-overflow_sub-left g c =
-    few_taken _ _ (some_mark_taken c.loop-next.left c.take_next.new.taken c.in-Ok-take_next.next c.in-Ok-take_next.ensures.some c.in_default-next.not-Wrong c.in_default-next-2.not-End)
-
-pub loop-next-smaller : goal.loop-next-smaller
-loop-next-smaller g c =
-    fewer_left _ _ (some_mark_taken c.loop-next.left c.take_next.new.taken c.in-Ok-take_next.next c.in-Ok-take_next.ensures.some c.in_default-next.not-Wrong c.in_default-next-2.not-End)
-
-pub loop-next-preserved : goal.loop-next-preserved
-loop-next-preserved g c =
-    let limit = c.args.limit in
-    let old = g.R.Read.remaining c.args.reader.now in
-    let new = g.R.Read.remaining c.take_next.new.reader in
-    let log = c.take_next.new.log in
-    let number = c.loop-next.line + 1 in
-    let count = c.take_next.new.taken in
-    let along =
-    right_turns limit c.loop-next.left old new log c.loop-next.line count c.in-Ok-take_next.next
-    (c.in-Ok-take_next.ensures.turned limit c.loop-next.line old c.loop-next.invariant.along) c.in_default-next.not-Wrong c.in_default-next-2.not-End in
-    record { along = along; few = few limit (c.loop-next.left - count) old new log number along }
-
-pub returns-in-Err : goal.returns-in-Err
-returns-in-Err g c =
-    let old = g.R.Read.remaining c.args.reader.now in
-    checked c.args.limit old (g.R.Read.remaining c.take_next.new.reader) (one_verdict mark_logs_rest_on_tables) (Err c.in-Err.fault)
-    (c.in-Err.ensures.turned c.args.limit c.loop-next.line old c.loop-next.invariant.along)
-
-pub returns-in-Wrong : goal.returns-in-Wrong
-returns-in-Wrong g c =
-    let old = g.R.Read.remaining c.args.reader.now in
-    checked c.args.limit old (g.R.Read.remaining c.take_next.new.reader) (one_verdict mark_logs_rest_on_tables)
-    (Ok (Invalid c.loop-next.line c.in-Wrong.cause))
-    (rw c.in-Wrong.is at (c.in-Ok-take_next.ensures.turned c.args.limit c.loop-next.line old c.loop-next.invariant.along))
-
-pub returns-in-End : goal.returns-in-End
-returns-in-End g c =
-    let old = g.R.Read.remaining c.args.reader.now in
-    let log = c.take_next.new.log in
-    checked c.args.limit old (g.R.Read.remaining c.take_next.new.reader) (one_verdict mark_logs_rest_on_tables)
-    (Ok (Valid log.requests log.grants))
-    (rw c.in-End.is at (c.in-Ok-take_next.ensures.turned c.args.limit c.loop-next.line old c.loop-next.invariant.along)).0
+pub returns-clause-end : goal.returns-clause-end
+returns-clause-end g c =
+    tells_log c.args.demanded c.args.limit (g.R.Read.remaining c.args.reader.now) (g.R.Read.remaining c.check_in-checked.new.reader) c.check_in-checked.new.log c.check_in-checked.result
+    c.passes_at_end.result c.check_in-checked.ensures.checks.alone c.check_in-checked.ensures.end c.passes_at_end.ensures

@@ -5,13 +5,15 @@ ghost use Rattle.ra_world.specs.Run.{marks_of};
 ghost use Rattle.ra_world.specs.Traffic.{sent_by};
 ghost use Rattle.ra_trace.specs.Along.{IsAlong};
 ghost use Rattle.ra_trace.specs.Check.{ChecksTrace};
+ghost use Rattle.ra_trace.specs.Complete as complete;
+ghost use Rattle.ra_trace.specs.CompleteAlong.{AtEnd};
 ghost use Rattle.ra_trace.specs.Due.{TellsDue};
 ghost use Rattle.ra_trace.specs.Following.{IsTraceSoFar, TellsTrace, trace_so_far_lines};
 ghost use Rattle.ra_trace.specs.FollowingAlong.{IsTold};
 ghost use Rattle.ra_trace.specs.Reading.{Answers};
 ghost use Rattle.ra_trace.specs.declared.checker.trace_watcher.TraceSoFar as counts;
 
-use crate::checker::check_text::{NOT_OPENED, ending, take_first, take_next};
+use crate::checker::check_text::{NOT_OPENED, ending, passes_at_end, take_first, take_next};
 use crate::checker::{Checker, Judgement};
 use crate::line::Line;
 use crate::line_source::{FromBuffer, LineRoom};
@@ -62,7 +64,8 @@ fn tell_if_due<W: TraceWatcher>(watcher: &mut W, due: &mut u128, every: u64, so_
 }
 
 /// Returns the verdict of a text whose first line has this many bytes, from the checker after that line, and tells the
-/// watcher. If a line is wrong for its sends or its marks, `due` becomes the line that was due there.
+/// watcher. If a line is wrong for its sends or its marks, `due` becomes the line that was due there. If the text is
+/// valid, the checker has then taken all of it.
 ///
 /// # Errors
 ///
@@ -86,6 +89,9 @@ fn follow_after<B: BufRead, W: TraceWatcher>(
     ensures tells { (old : Option (List ℕ))
         → IsAlong 9223372036854775808 (9223372036854775808 - first) old (B.remaining reader.old) checker.old 2
         → TellsTrace every old result (W.told watcher.old) (W.told watcher.new) }
+    ensures end { (old : Option (List ℕ))
+        → IsAlong 9223372036854775808 (9223372036854775808 - first) old (B.remaining reader.old) checker.old 2
+        → AtEnd old (B.remaining reader.new) checker.new result }
 {
     let mut left = MAX_FOLLOWED as usize - first;
     let mut number = 2;
@@ -148,10 +154,38 @@ pub fn follow_trace<B: BufRead, W: TraceWatcher>(
     ensures due { TellsDue (B.remaining reader.old) result due.new }
     ensures tells { TellsTrace every (B.remaining reader.old) result (W.told watcher.old) (W.told watcher.new) }
 {
+    follow_trace_with_end(alloc, reader, every, watcher, false, due, &mut false)
+}
+
+/// Checks the text of a trace as [`follow_trace`] does, and tells in `passes` whether it passes: it is valid and, if
+/// that is demanded, complete, as [`check_buffered_with_end`](crate::check_buffered_with_end) says. If there is no
+/// verdict, nothing is promised of `passes`. The cost is that of `follow_trace`, and if it is demanded also linear in
+/// the numbers of names and nodes.
+///
+/// # Errors
+///
+/// Those of `follow_trace`.
+pub fn follow_trace_with_end<B: BufRead, W: TraceWatcher>(
+    alloc: Global,
+    reader: &mut B,
+    every: u64,
+    watcher: &mut W,
+    demanded: bool,
+    due: &mut Option<Line>,
+    passes: &mut bool,
+) -> Result<Verdict, TraceError>
+    ensures checks { ChecksTrace 9223372036854775808 (B.remaining reader.old) (B.remaining reader.new) result }
+    ensures due { TellsDue (B.remaining reader.old) result due.new }
+    ensures tells { TellsTrace every (B.remaining reader.old) result (W.told watcher.old) (W.told watcher.new) }
+    ensures end { complete.TellsTrace demanded (B.remaining reader.old) (B.remaining reader.new) result passes.new }
+{
     let mut taken = 0;
+    *passes = false;
     match take_first::<B, FromBuffer>(alloc, reader, &mut taken, MAX_FOLLOWED as usize) {
         Ok(Some(mut checker)) => {
-            follow_after(alloc, reader, taken, &mut checker, every, watcher, due)
+            let result = follow_after(alloc, reader, taken, &mut checker, every, watcher, due);
+            *passes = passes_at_end(demanded, &checker, &result);
+            result
         }
         Ok(None) => Ok(NOT_OPENED),
         Err(fault) => Err(fault),

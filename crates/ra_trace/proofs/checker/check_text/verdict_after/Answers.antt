@@ -1,6 +1,7 @@
 use Rattle.std.proofs.Common.{◌+◌, ◌-◌, slice_get, ap, ◌∙◌}
 use Rattle.ra_trace.specs.Verdict.{Due, due_lines}
 use Rattle.ra_trace.proofs.Along.{answers_at_end, right_turns, some_taken, at_first, few_taken, fewer_left, still_short}
+use Rattle.ra_trace.proofs.Complete.{taken_at_end}
 use Rattle.ra_trace.proofs.Telling.{tells_at, none_at_end, none_at_fault}
 use Rattle.ra_trace.proofs.checker.check_text.verdict_after.Goals as goal
 
@@ -64,3 +65,9 @@ pub returns-in-Last-clause-due : goal.returns-in-Last-clause-due
 returns-in-Last-clause-due g c old first =
     none_at_end (c.loop-next.left - c.take_next.new.taken) old (g.R.Read.remaining c.take_next.new.reader) (g.R.Read.remaining c.ending.new.reader)
     c.take_next.new.checker (c.loop-next.number + 1) c.ending.result _ c.ending.ensures
+
+pub returns-in-Last-clause-end : goal.returns-in-Last-clause-end
+returns-in-Last-clause-end g c old first =
+    let done = rw c.in-Last.is at (c.in-Ok.ensures.turned c.args.limit c.loop-next.number old (c.loop-next.invariant.along old first)) in
+    taken_at_end c.args.limit (c.loop-next.left - c.take_next.new.taken) old (g.R.Read.remaining c.take_next.new.reader) (g.R.Read.remaining c.ending.new.reader)
+    c.take_next.new.checker (c.loop-next.number + 1) c.ending.result done c.ending.ensures

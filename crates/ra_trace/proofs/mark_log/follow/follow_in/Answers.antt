@@ -1,4 +1,4 @@
-use Rattle.std.proofs.Common.{ℕ, ◌+◌, ◌-◌, List, Option, Ok, Err, subst, sym}
+use Rattle.std.proofs.Common.{ℕ, ◌+◌, ◌-◌, List, Option, Ok, Err, refl, subst, sym}
 use Rattle.ra_trace.specs.declared.mark_log.marks_verdict.MarksVerdict.TheVariants.{Valid, Invalid}
 use Rattle.ra_trace.specs.declared.mark_log.marks_watcher.MarksSoFar.{MarksSoFar}
 use Rattle.ra_trace.specs.Following.{HasRightMarks, IsMarksSoFar, marks_lines}
@@ -99,3 +99,8 @@ returns-in-End-clause-tells g c =
     tells_at_verdict MarksSoFar marks_lines IsMarksSoFar HasRightMarks c.args.every old (g.W.MarksWatcher.told c.args.watcher.now)
     (g.W.MarksWatcher.told c.loop-next.watcher) line c.loop-next.due c.loop-next.invariant.told (Valid log.requests log.grants)
     (right_before_end line log.requests log.grants old ended.1)
+
+pub returns-in-End-clause-end : goal.returns-in-End-clause-end
+returns-in-End-clause-end g c =
+    let old = g.B.Read.remaining c.args.reader.now in
+    ((rw c.in-End.is at (c.in-Ok.ensures.turned 9223372036854775808 c.loop-next.line old c.loop-next.invariant.along)).2, refl, refl)

@@ -5,6 +5,7 @@ use Rattle.ra_trace.specs.Verdict.{Due, due_lines}
 use Rattle.ra_trace.specs.Following.{HasRightLines, IsTraceSoFar, trace_so_far_lines}
 use Rattle.ra_trace.specs.FollowingAlong.{IsTold}
 use Rattle.ra_trace.proofs.Along.{answers_at_end, right_turns, some_taken, at_first, few_taken, fewer_left, still_short}
+use Rattle.ra_trace.proofs.Complete.{taken_at_end}
 use Rattle.ra_trace.proofs.Following.{told_nothing, tells_at_fault, tells_at_verdict}
 use Rattle.ra_trace.proofs.Telling.{tells_at, none_at_end, none_at_fault}
 use Rattle.ra_trace.proofs.TraceFollowing.{lines_along, right_before_wrong, so_far_along, so_far_turned, tells_at_end}
@@ -119,3 +120,9 @@ returns-in-Last-clause-tells g c old first =
     (lines_along limit left old _ _ number (c.loop-next.invariant.along old first)) in
     tells_at_end c.args.every limit (left - count) old now (g.B.Read.remaining c.ending.new.reader) after (number + 1) _ before _
     (rw c.in-Last.is at turned) told c.ending.result c.ending.ensures
+
+pub returns-in-Last-clause-end : goal.returns-in-Last-clause-end
+returns-in-Last-clause-end g c old first =
+    let done = rw c.in-Last.is at (c.in-Ok.ensures.turned 9223372036854775808 c.loop-next.number old (c.loop-next.invariant.along old first)) in
+    taken_at_end 9223372036854775808 (c.loop-next.left - c.take_next.new.taken) old (g.B.Read.remaining c.take_next.new.reader) (g.B.Read.remaining c.ending.new.reader)
+    c.take_next.new.checker (c.loop-next.number + 1) c.ending.result done c.ending.ensures

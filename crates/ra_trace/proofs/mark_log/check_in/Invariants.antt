@@ -1,8 +1,8 @@
 use Rattle.ra_trace.specs.MarksAlong.{IsAlongMarks}
 use Rattle.ra_trace.proofs.MarksAlong.{IsFew}
-use Rattle.ra_trace.proofs.mark_log.check_by.Given as goal
+use Rattle.ra_trace.proofs.mark_log.check_in.Given as goal
 
--- the lines so far are the lines of a run, and no more than the bytes
+-- the lines so far are those of a run, and there are no more of them than bytes
 abbrev pub invariant-loop-next : goal.invariant-loop-next
 invariant-loop-next g l = record {
   along : IsAlongMarks l.fn.limit l.left (g.R.Read.remaining l.fn.reader) (g.R.Read.remaining l.reader) l.log l.line;

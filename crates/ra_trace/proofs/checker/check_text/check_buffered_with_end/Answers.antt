@@ -1,4 +1,4 @@
-use Rattle.std.proofs.Common.{◌≡◌, ◌⊎◌, ℕ, List, Option, Some, None, Result, Ok, Err, inl, inr}
+use Rattle.std.proofs.Common.{◌≡◌, ◌⊎◌, ℕ, false, List, Option, Some, None, Result, Ok, Err, refl, inl, inr}
 use Rattle.ra_trace.specs.declared.checker.verdict.Cause.TheVariants as cause
 use Rattle.ra_trace.specs.declared.checker.verdict.Cause.TheVariants.{Sends, Marks}
 use Rattle.ra_trace.specs.declared.checker.verdict.Verdict.{Verdict}
@@ -6,10 +6,11 @@ use Rattle.ra_trace.specs.declared.checker.verdict.Verdict.TheVariants.{Invalid}
 use Rattle.ra_trace.specs.declared.error.TraceError.{TraceError}
 use Rattle.ra_trace.specs.declared.line.Line.{Line}
 use Rattle.ra_trace.specs.Due.{TellsDue}
+use Rattle.ra_trace.proofs.Complete.{tells_trace, tells_wrong}
 use Rattle.ra_trace.proofs.Inputs.{checked}
 use Rattle.ra_trace.proofs.TraceLaws.{traces_rest_on_runs}
 use Rattle.ra_trace.proofs.Verdicts.{one_verdict}
-use Rattle.ra_trace.proofs.checker.check_text.check_buffered_with_due.Goals as goal
+use Rattle.ra_trace.proofs.checker.check_text.check_buffered_with_end.Goals as goal
 
 pub returns-in-Err-clause-checks : goal.returns-in-Err-clause-checks
 returns-in-Err-clause-checks g c =
@@ -19,8 +20,8 @@ returns-in-Err-clause-checks g c =
 pub returns-in-Ok-Some-clause-checks : goal.returns-in-Ok-Some-clause-checks
 returns-in-Ok-Some-clause-checks g c =
     let old = g.B.Read.remaining c.args.reader.now in
-    checked 16777216 old (g.B.Read.remaining c.verdict_after.new.reader) traces_rest_on_runs (one_verdict traces_rest_on_runs)
-    c.verdict_after.result (c.verdict_after.ensures.answers old (rw c.in-Ok-Some.field-0-is at c.in-Ok-Some.ensures.opened))
+    checked 16777216 old (g.B.Read.remaining c.verdict_after-result.new.reader) traces_rest_on_runs (one_verdict traces_rest_on_runs)
+    c.verdict_after-result.result (c.verdict_after-result.ensures.answers old (rw c.in-Ok-Some.field-0-is at c.in-Ok-Some.ensures.opened))
 
 pub returns-in-Ok-None-clause-checks : goal.returns-in-Ok-None-clause-checks
 returns-in-Ok-None-clause-checks g c =
@@ -52,4 +53,21 @@ returns-in-Ok-None-clause-due g c =
 
 pub returns-in-Ok-Some-clause-due : goal.returns-in-Ok-Some-clause-due
 returns-in-Ok-Some-clause-due g c =
-    c.verdict_after.ensures.due (g.B.Read.remaining c.args.reader.now) (rw c.in-Ok-Some.field-0-is at c.in-Ok-Some.ensures.opened)
+    c.verdict_after-result.ensures.due (g.B.Read.remaining c.args.reader.now) (rw c.in-Ok-Some.field-0-is at c.in-Ok-Some.ensures.opened)
+
+pub returns-in-Ok-Some-clause-end : goal.returns-in-Ok-Some-clause-end
+returns-in-Ok-Some-clause-end g c =
+    let old = g.B.Read.remaining c.args.reader.now in
+    let new = g.B.Read.remaining c.verdict_after-result.new.reader in
+    let along = rw c.in-Ok-Some.field-0-is at c.in-Ok-Some.ensures.opened in
+    let checks = checked 16777216 old new traces_rest_on_runs (one_verdict traces_rest_on_runs) c.verdict_after-result.result (c.verdict_after-result.ensures.answers old along) in
+    tells_trace c.args.demanded 16777216 old new c.verdict_after-result.new.checker c.verdict_after-result.result c.passes_at_end.result checks.alone
+    (c.verdict_after-result.ensures.end old along) c.passes_at_end.ensures
+
+pub returns-in-Ok-None-clause-end : goal.returns-in-Ok-None-clause-end
+returns-in-Ok-None-clause-end g c =
+    let old = g.B.Read.remaining c.args.reader.now in
+    let new = g.B.Read.remaining c.take_first.new.reader in
+    let checks = checked 16777216 old new traces_rest_on_runs (one_verdict traces_rest_on_runs) (Ok (Invalid 1 cause.Line))
+    (rw c.in-Ok-None.field-0-is at c.in-Ok-None.ensures.opened) in
+    tells_wrong c.args.demanded 16777216 old new (Invalid 1 cause.Line) false checks.alone (λ text. refl)

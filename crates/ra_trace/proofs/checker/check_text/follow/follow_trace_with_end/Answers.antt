@@ -1,4 +1,4 @@
-use Rattle.std.proofs.Common.{◌≡◌, ◌⊎◌, ℕ, refl, List, Option, Some, None, Result, Ok, Err, inl, inr}
+use Rattle.std.proofs.Common.{◌≡◌, ◌⊎◌, ℕ, false, refl, List, Option, Some, None, Result, Ok, Err, inl, inr}
 use Rattle.ra_trace.specs.declared.checker.verdict.Cause.TheVariants as cause
 use Rattle.ra_trace.specs.declared.checker.verdict.Cause.TheVariants.{Sends, Marks}
 use Rattle.ra_trace.specs.declared.checker.verdict.Verdict.{Verdict}
@@ -8,11 +8,12 @@ use Rattle.ra_trace.specs.declared.line.Line.{Line}
 use Rattle.ra_trace.specs.declared.checker.trace_watcher.TraceSoFar.{TraceSoFar}
 use Rattle.ra_trace.specs.Due.{TellsDue}
 use Rattle.ra_trace.specs.Following.{HasRightLines, IsTraceSoFar, trace_so_far_lines}
+use Rattle.ra_trace.proofs.Complete.{tells_trace, tells_wrong}
 use Rattle.ra_trace.proofs.Following.{told_nothing, tells_at_fault, tells_at_verdict}
 use Rattle.ra_trace.proofs.Inputs.{checked}
 use Rattle.ra_trace.proofs.TraceLaws.{traces_rest_on_runs}
 use Rattle.ra_trace.proofs.Verdicts.{one_verdict}
-use Rattle.ra_trace.proofs.checker.check_text.follow.follow_trace.Goals as goal
+use Rattle.ra_trace.proofs.checker.check_text.follow.follow_trace_with_end.Goals as goal
 
 pub returns-in-Err-clause-checks : goal.returns-in-Err-clause-checks
 returns-in-Err-clause-checks g c =
@@ -22,8 +23,8 @@ returns-in-Err-clause-checks g c =
 pub returns-in-Ok-Some-clause-checks : goal.returns-in-Ok-Some-clause-checks
 returns-in-Ok-Some-clause-checks g c =
     let old = g.B.Read.remaining c.args.reader.now in
-    checked 9223372036854775808 old (g.B.Read.remaining c.follow_after.new.reader) traces_rest_on_runs (one_verdict traces_rest_on_runs)
-    c.follow_after.result (c.follow_after.ensures.answers old (rw c.in-Ok-Some.field-0-is at c.in-Ok-Some.ensures.opened))
+    checked 9223372036854775808 old (g.B.Read.remaining c.follow_after-result.new.reader) traces_rest_on_runs (one_verdict traces_rest_on_runs)
+    c.follow_after-result.result (c.follow_after-result.ensures.answers old (rw c.in-Ok-Some.field-0-is at c.in-Ok-Some.ensures.opened))
 
 pub returns-in-Ok-None-clause-checks : goal.returns-in-Ok-None-clause-checks
 returns-in-Ok-None-clause-checks g c =
@@ -55,7 +56,7 @@ returns-in-Ok-None-clause-due g c =
 
 pub returns-in-Ok-Some-clause-due : goal.returns-in-Ok-Some-clause-due
 returns-in-Ok-Some-clause-due g c =
-    c.follow_after.ensures.due (g.B.Read.remaining c.args.reader.now) (rw c.in-Ok-Some.field-0-is at c.in-Ok-Some.ensures.opened)
+    c.follow_after-result.ensures.due (g.B.Read.remaining c.args.reader.now) (rw c.in-Ok-Some.field-0-is at c.in-Ok-Some.ensures.opened)
 
 pub returns-in-Err-clause-tells : goal.returns-in-Err-clause-tells
 returns-in-Err-clause-tells g c =
@@ -73,4 +74,21 @@ returns-in-Ok-None-clause-tells g c =
 
 pub returns-in-Ok-Some-clause-tells : goal.returns-in-Ok-Some-clause-tells
 returns-in-Ok-Some-clause-tells g c =
-    c.follow_after.ensures.tells (g.B.Read.remaining c.args.reader.now) (rw c.in-Ok-Some.field-0-is at c.in-Ok-Some.ensures.opened)
+    c.follow_after-result.ensures.tells (g.B.Read.remaining c.args.reader.now) (rw c.in-Ok-Some.field-0-is at c.in-Ok-Some.ensures.opened)
+
+pub returns-in-Ok-Some-clause-end : goal.returns-in-Ok-Some-clause-end
+returns-in-Ok-Some-clause-end g c =
+    let old = g.B.Read.remaining c.args.reader.now in
+    let new = g.B.Read.remaining c.follow_after-result.new.reader in
+    let along = rw c.in-Ok-Some.field-0-is at c.in-Ok-Some.ensures.opened in
+    let checks = checked 9223372036854775808 old new traces_rest_on_runs (one_verdict traces_rest_on_runs) c.follow_after-result.result (c.follow_after-result.ensures.answers old along) in
+    tells_trace c.args.demanded 9223372036854775808 old new c.follow_after-result.new.checker c.follow_after-result.result c.passes_at_end.result checks.alone
+    (c.follow_after-result.ensures.end old along) c.passes_at_end.ensures
+
+pub returns-in-Ok-None-clause-end : goal.returns-in-Ok-None-clause-end
+returns-in-Ok-None-clause-end g c =
+    let old = g.B.Read.remaining c.args.reader.now in
+    let new = g.B.Read.remaining c.take_first.new.reader in
+    let checks = checked 9223372036854775808 old new traces_rest_on_runs (one_verdict traces_rest_on_runs) (Ok (Invalid 1 cause.Line))
+    (rw c.in-Ok-None.field-0-is at c.in-Ok-None.ensures.opened) in
+    tells_wrong c.args.demanded 9223372036854775808 old new (Invalid 1 cause.Line) false checks.alone (λ text. refl)
