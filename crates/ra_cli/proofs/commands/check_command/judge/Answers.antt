@@ -1,10 +1,10 @@
-use Rattle.std.proofs.Common.{◌≡◌, ℕ, true, false, List, Option, Err, ap, refl, ◌∙◌}
+use Rattle.std.proofs.Common.{◌≡◌, ℕ, true, false, List, Option, Err, ap, refl, ◌∙◌, inl, inr}
 use Rattle.ra_trace.specs.declared.checker.verdict.Verdict.{Verdict}
 use Rattle.ra_trace.specs.declared.checker.verdict.Verdict.TheVariants.{Valid, Invalid}
 use Rattle.ra_trace.specs.Verdict.{IsVerdict}
 use Rattle.ra_trace.specs.declared.error.TraceError.{TraceError}
 use Rattle.ra_trace.specs.declared.error.TraceError.TheVariants.{Limit, Memory, Read}
-use Rattle.ra_trace.specs.Reading.{PassesLimit, ReadsOn}
+use Rattle.ra_trace.specs.Reading.{Judges as ShowsVerdict, PassesLimit, ReadsOn, StopsAfter}
 use Rattle.ra_arguments.specs.declared.command_line.Task.TheVariants as task
 use Rattle.ra_cli.specs.Checks.{RefusesCheck, is_valid, verdict_text}
 use Rattle.ra_cli.specs.declared.refusal_lines.CommandRefusal.TheVariants.{Check}
@@ -22,10 +22,10 @@ right (Invalid line why) is = absurd cc
 
 -- why it is not checked
 cause : (old new : Option (List ℕ)) (fault : TraceError) → (fault ≡ Read → ReadsOn 16777216 old new) → (fault ≡ Limit → PassesLimit 16777216 old new)
-    → RefusesCheck old new fault
-cause old new Read failed limit = failed refl
-cause old new Limit failed limit = limit refl
-cause old new Memory failed limit = tt
+    → (fault ≡ Memory → StopsAfter 16777216 old new) → RefusesCheck old new fault
+cause old new Read failed limit memory = failed refl
+cause old new Limit failed limit memory = limit refl
+cause old new Memory failed limit memory = inl (memory refl)
 
 pub returns-in-Ok-verdict_text : goal.returns-in-Ok-verdict_text
 returns-in-Ok-verdict_text g c =
@@ -39,16 +39,17 @@ returns-in-Ok-verdict_text g c =
     c.outcome_of.ensures
     (writes_as (verdict_text verdict) c.as_bytes.result.now c.outcome_of.result.status before after c.print_text.result.status c.print_text.result.status refl
     (c.as_bytes.ensures.value ∙ c.in-Ok-verdict_text.ensures) c.print_text.ensures)
-    (judges IsVerdict is_valid verdict_text Valid right 16777216 old new before after verdict true known.ok known.valid known.alone)
-    (judges IsVerdict is_valid verdict_text Valid right 16777216 old new before after verdict false known.ok known.valid known.alone)
+    (judges IsVerdict (ShowsVerdict 16777216) is_valid verdict_text Valid right 16777216 old new before after verdict true known.ok known.valid known.judged known.alone)
+    (judges IsVerdict (ShowsVerdict 16777216) is_valid verdict_text Valid right 16777216 old new before after verdict false known.ok known.valid known.judged known.alone)
     (of_known old (λ input. IsVerdict input verdict) (λ input. IsPrintedBy task.Check input (verdict_text verdict)) (λ input h. (verdict, h, refl)) known.ok)
 
 pub returns-in-Err : goal.returns-in-Err
 returns-in-Err g c =
     let fault = c.in-Err.fault in
     if_refused_at_once task.Check _ _ _ _ _ (Check fault) _ c.refuse.ensures (λ writer. writer)
-    (fault, refl, cause _ _ fault (λ is. c.in-Err.ensures.checks.failed (ap Err is)) (λ is. c.in-Err.ensures.checks.limit (ap Err is)))
+    (fault, refl, cause _ _ fault (λ is. c.in-Err.ensures.checks.failed (ap Err is)) (λ is. c.in-Err.ensures.checks.limit (ap Err is)) (λ is. c.in-Err.ensures.checks.memory (ap Err is)))
 
 pub returns-in-Err-verdict_text : goal.returns-in-Err-verdict_text
 returns-in-Err-verdict_text g c =
-    if_refused_at_once task.Check _ _ _ _ _ (Check Memory) _ c.refuse-in-Err-verdict_text.ensures (λ writer. writer) (Memory, refl, tt)
+    if_refused_at_once task.Check _ _ _ _ _ (Check Memory) _ c.refuse-in-Err-verdict_text.ensures (λ writer. writer)
+    (Memory, refl, inr (c.in-Ok.verdict, c.in-Ok.ensures.checks.judged))
