@@ -1,4 +1,5 @@
-//! Tests of `ra_stamp`, `ra_frame`, `ra_automaton`, `ra_node`, `ra_bag` and `ra_table` through their public calls.
+//! Tests of `ra_stamp`, `ra_frame`, `ra_automaton`, `ra_disk`, `ra_node`, `ra_bag` and `ra_table` through their public
+//! calls.
 #![tactic(auto)]
 
 #[cfg(test)]
