@@ -15,7 +15,7 @@ const REPLY: &str = "02020002000100000000000000000100000000000000020172\n";
 /// The words of a command line.
 const WORDS: [&str; 6] = ["ra", "answer", "--node", "2", "--nodes", "3"];
 
-/// Asserts that these bytes are those of the text.
+/// Asserts that these bytes are the bytes of the text.
 fn assert_text(rt: &impl Abort, label: &str, bytes: &[u8], text: &str) {
     let (at, came) = (row(label), str::from_utf8(bytes).unwrap_or("no text"));
     if came != text {

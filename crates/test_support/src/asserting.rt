@@ -20,7 +20,7 @@ macro_rules! assert_words {
     };
 }
 
-/// Asserts that calls of which a growth was refused had the right answer, and changed nothing.
+/// Asserts that calls with a refused growth had the right answer, and changed nothing.
 #[macro_export]
 macro_rules! assert_grown {
     ($rt:expr, $tried:expr) => {

@@ -86,7 +86,7 @@ pub enum Step {
     Stays(u64),
 }
 
-/// What becomes of the inboxes before the first step.
+/// What happens to the inboxes before the first step.
 #[derive(Clone, Copy)]
 pub enum Gone {
     /// All are kept.

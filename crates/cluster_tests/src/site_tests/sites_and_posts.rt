@@ -12,7 +12,7 @@ use ra_frame::FrameError;
 use std::alloc::Global;
 use test_support::{At, assert_prints, assert_words};
 
-/// The last clock, after which there is none for an event.
+/// The last clock: no event can come after it.
 const LAST_CLOCK: u64 = 1 << 62;
 
 /// Returns how many inboxes the post of this many nodes has, or why there is no post.

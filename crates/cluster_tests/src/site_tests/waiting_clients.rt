@@ -115,7 +115,7 @@ fn a_leave_is_taken_though_its_frame_is_lost(rt: HostRuntime) {
 /// At which turn of the client of node 1 the post is closed.
 const CLOSING: u32 = 50;
 
-/// A client at each of two nodes uses one name very often, and that of node 1 closes the post.
+/// A client at each of two nodes uses one name very often, and the client of node 1 closes the post.
 const TRAFFIC: &[Row] = &[Row {
     words: "the post is closed under traffic",
     steps: &[
@@ -137,7 +137,7 @@ fn books_settle_if_the_post_is_closed_under_traffic(rt: HostRuntime) {
     play_sites(&rt, TRAFFIC);
 }
 
-/// Two numbers are left: that of client 1, which holds the name, and the last one, that of client 2 after it. Client 3
+/// Two numbers are left: one for client 1, which holds the name, and the last one for client 2 after it. Client 3
 /// queues before the last number of its name is used, and client 4 comes later.
 const NO_NUMBER_LEFT: &[Row] = &[Row {
     words: "the last number is used before the turn of client 3",
@@ -186,7 +186,7 @@ const IN_TURN: &[Row] = &[Row {
         ComesToBeStopped(1),
         RefusesToUnlock(3, 2, SiteError::Refused(BookError::NotHeld)),
         ClosesPost,
-        // The inbox of node 2 is gone, so that of node 3 is the second.
+        // The inbox of node 2 is gone, so the inbox of node 3 is the second.
         HasLeft(1, 3, 1),
         LetsGo,
     ],

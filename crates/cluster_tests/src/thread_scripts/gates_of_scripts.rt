@@ -29,7 +29,7 @@ struct Meets {
     at: Meeting,
     /// At node 1 and at node 2.
     steps: (AtomicU64, AtomicU64),
-    /// Of client 1 and of client 2.
+    /// For client 1 and for client 2.
     insides: (AtomicU64, AtomicU64),
     /// How often somebody waited in vain.
     missed: AtomicU64,

@@ -12,7 +12,7 @@ pub fn assert_same<T: Debug + PartialEq>(rt: &impl Abort, at: At<'_>, came: &T, 
     }
 }
 
-/// Waits until a number is at least `least`, for which it is looked many times. Asserts that it came to that.
+/// Looks many times, until a number is at least `least`. Asserts that it came to that.
 pub fn assert_comes_to(rt: &impl Abort, at: At<'_>, number: &AtomicU64, least: u64) {
     if !comes_to(number, least) {
         assert_same(rt, at, &number.load(Ordering::SeqCst), &least);

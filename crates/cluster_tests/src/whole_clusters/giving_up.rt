@@ -55,7 +55,7 @@ fn lock_within<R: Wait + Clock>(
 }
 
 /// Client 1 of the last node holds `r`, and leaves it while the time of client 2 of node 1 ends, which the clock of the
-/// test says. Returns whether client 2 was let in. Either way nothing is left behind.
+/// test says. Returns whether client 2 was let in. Either way nothing is left.
 fn race<R: Wait + Threads + Sync + Abort>(
     rt: &R,
     alloc: Global,

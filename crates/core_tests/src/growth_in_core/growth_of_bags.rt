@@ -207,7 +207,7 @@ fn try_three_times(rt: &(impl Abort + AllocGlobal), bag: &mut Bag) -> Tried {
 }
 
 /// Puts 268 messages into a bag three times, has it learn the slot of each one, and takes one of each of the first
-/// 238. If the bag counted its slots before, it does so after. If there is no bag, memory ran out.
+/// 238. If the bag counted its slots before, it does so after. If no bag is made, memory ran out.
 fn try_equal(rt: &(impl Abort + AllocGlobal)) -> Result<Tried, Memory> {
     let (label, mut bag) = ("a bag with equal messages", new_bag(rt)?);
     let put_all = try_three_times(rt, &mut bag);
@@ -339,7 +339,7 @@ fn try_put_one(rt: &impl Abort, bag: &mut Bag, one: &Messages, makes_room: bool)
     }
 }
 
-/// Puts a message into a new bag 10,000 times so. If there is no bag, memory ran out.
+/// Puts a message into a new bag 10,000 times so. If no bag is made, memory ran out.
 pub fn try_many_puts(rt: &(impl Abort + AllocGlobal), makes_room: bool) -> Result<Tried, Memory> {
     let (mut bag, mut one) = (new_bag(rt)?, Messages::new(rt.alloc()));
     let mut tried = try_push(rt, &mut one, 1);

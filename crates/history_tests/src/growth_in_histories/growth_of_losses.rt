@@ -15,7 +15,7 @@ use std::sync::Wait;
 use std::thread::Threads;
 use test_support::{At, Tried, again, assert_grown, both, part, reply, request, row};
 
-/// What two nodes handed over so far: what became of the calls, the clock of the last event of node 1 and of node 2, 0
+/// What two nodes handed over so far: how the calls ended, the clock of the last event of node 1 and of node 2, 0
 /// before the first, and how many frames were lost.
 #[derive(Clone, Copy)]
 struct Rounds {
@@ -135,7 +135,7 @@ fn try_running<R: AllocGlobal + Threads + Wait + Abort + Sync>(rt: &R) -> Result
     }
 }
 
-/// A frame for which there is no memory is handed over as lost.
+/// If memory for a frame is lacking, it is handed over as lost.
 #[test]
 fn growth_of_lost_frames_that_are_audited(rt: HostRuntime) {
     assert_grown!(&rt, again(try_running(&rt), try_running(&rt)));

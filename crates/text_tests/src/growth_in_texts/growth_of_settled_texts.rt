@@ -1,5 +1,5 @@
-//! If a growth is refused, books do not settle for lack of memory, and what comes of them is the same when they are
-//! read again.
+//! If a growth is refused, books do not settle for lack of memory, and their outcome is the same when they are read
+//! again.
 use crate::text_asserting::assert_same;
 use ra_book_text::{SettleTextError, SettledText, TextCause, settle_text};
 use ra_stamp::Memory;
@@ -7,7 +7,7 @@ use ra_trace::trace_text;
 use std::process::Abort;
 use test_support::{At, Tried, again, assert_grown, both, part, row};
 
-/// The run into which books settle: its trace, how many messages were sent, and how many copies were put under way.
+/// The run that books settle into: its trace, how many messages were sent, and how many copies were put under way.
 #[derive(Clone, Copy)]
 struct Run {
     trace: &'static str,

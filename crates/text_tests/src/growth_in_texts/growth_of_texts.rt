@@ -132,7 +132,7 @@ fn growth_of_a_script_and_of_choices(rt: HostRuntime) {
     assert_grown!(&rt, both(script, choices));
 }
 
-/// Returns a writer that takes this text and nothing else.
+/// Returns a writer that takes exactly this text.
 fn taking(text: &str) -> FailingWriter<'_> {
     failing(text, 1_000, None)
 }

@@ -20,7 +20,7 @@ use std::process::Abort;
 use test_support::{At, Tried, again, assert_grown, assert_memory, both, entry, id, part, r, row};
 
 /// Node 1 enters first, then node 2, and then the REQUEST of node 1 is repeated and lost. Its copy is repeated so often
-/// that no room is left for one more. The client gives up, and the node forgets names.
+/// that no room is left for another. The client gives up, and the node forgets names.
 const LINES: [&str; 20] = [
     "ask 1 1 r X",
     "ask 2 1 r X",
@@ -295,7 +295,7 @@ fn growth_of_the_line_of_a_mark(rt: HostRuntime) {
     assert_grown!(&rt, again(try_mark(&rt), try_mark(&rt)));
 }
 
-/// The lines of the report of a world in which nothing has happened.
+/// The lines of the report of a world before its first step.
 const NOTHING: &str = "requests 0\nmessages 0\nunder-way 0\nlost 0\nwaiting 0\nqueued 0\n";
 
 /// Makes the lines of the report of a world before its first step. If no lines are made, memory ran out.
