@@ -135,7 +135,7 @@ fn try_running<R: AllocGlobal + Threads + Wait + Abort + Sync>(rt: &R) -> Result
     }
 }
 
-/// If memory for a frame is lacking, it is handed over as lost.
+/// If there is no memory for a frame, the frame is handed over as lost.
 #[test]
 fn growth_of_lost_frames_that_are_audited(rt: HostRuntime) {
     assert_grown!(&rt, again(try_running(&rt), try_running(&rt)));
