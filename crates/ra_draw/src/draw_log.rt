@@ -30,16 +30,10 @@ pub fn draw_marks<R: Read, W: Write>(
     ensures { DrawsLog part (R.remaining reader.old) (R.remaining reader.new)
         (W.contents writer.old) (W.contents writer.new) (writer.new ≡ writer.old) text.new.items result }
 {
-    *text = match read_text(alloc, reader) {
-        Ok(read) => read,
-        Err(fault) => return Err(fault),
-    };
+    *text = read_text(alloc, reader)?;
     let input = text.as_slice();
     let mut unread = input;
-    let verdict = match check_marks_buffered(alloc, &mut unread) {
-        Ok(verdict) => verdict,
-        Err(fault) => return Err(DrawError::from(fault)),
-    };
+    let verdict = check_marks_buffered(alloc, &mut unread)?;
     let MarksVerdict::Valid { requests, grants } = verdict else {
         return Ok(verdict);
     };
@@ -48,8 +42,6 @@ pub fn draw_marks<R: Read, W: Write>(
         counted: "grant",
         count: u128::from(grants),
     };
-    match write_picture(alloc, input, writer, part, totals) {
-        Ok(()) => Ok(verdict),
-        Err(fault) => Err(fault),
-    }
+    write_picture(alloc, input, writer, part, totals)?;
+    Ok(verdict)
 }

@@ -46,16 +46,10 @@ pub fn draw<R: Read, W: Write>(
     ensures { DrawsTrace part (R.remaining reader.old) (R.remaining reader.new)
         (W.contents writer.old) (W.contents writer.new) (writer.new ≡ writer.old) text.new.items result }
 {
-    *text = match read_text(alloc, reader) {
-        Ok(read) => read,
-        Err(fault) => return Err(fault),
-    };
+    *text = read_text(alloc, reader)?;
     let input = text.as_slice();
     let mut unread = input;
-    let verdict = match check_buffered(alloc, &mut unread) {
-        Ok(verdict) => verdict,
-        Err(fault) => return Err(DrawError::from(fault)),
-    };
+    let verdict = check_buffered(alloc, &mut unread)?;
     let Verdict::Valid { requests, messages } = verdict else {
         return Ok(verdict);
     };
@@ -64,8 +58,6 @@ pub fn draw<R: Read, W: Write>(
         counted: "message",
         count: messages,
     };
-    match write_picture(alloc, input, writer, part, totals) {
-        Ok(()) => Ok(verdict),
-        Err(fault) => Err(fault),
-    }
+    write_picture(alloc, input, writer, part, totals)?;
+    Ok(verdict)
 }

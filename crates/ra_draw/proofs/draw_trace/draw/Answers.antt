@@ -1,4 +1,5 @@
 use Rattle.std.proofs.Common.{◌≡◌, ℕ, List, Option, Some, Err, flat_map, refl, ap}
+use Rattle.std.proofs.lemmas.Result.{err_from_is_err_and}
 use Rattle.ra_trace.specs.declared.checker.verdict.Verdict.{Verdict}
 use Rattle.ra_trace.specs.declared.checker.verdict.Verdict.TheVariants.{Valid, Invalid}
 use Rattle.ra_trace.specs.TraceText.{line_text}
@@ -16,40 +17,44 @@ nothing part input contents (Valid m n) not = absurd (not m n refl)
 nothing part input contents (Invalid line why) not = appends_nothing contents
 
 -- the text was not read
-pub returns-in-Err : goal.returns-in-Err
-returns-in-Err g c = unread IsVerdict Valid Invalid Draws c.args.part _ _ _ _ _ _ refl c.in-Err.fault c.in-Err.ensures.err
+pub returns-in_err-text : goal.returns-in_err-text
+returns-in_err-text g c =
+    let p = err_from_is_err_and c.from_residual.result c.from_residual.ensures.1 in
+    rw (p.1, p.2) (unread IsVerdict Valid Invalid Draws c.args.part _ _ _ _ _ _ refl c.in_err-text.field-0.0 c.in_err-text.ensures.err)
 
 -- it was not judged
-pub returns-in-Err-check_buffered : goal.returns-in-Err-check_buffered
-returns-in-Err-check_buffered g c =
-    let whole = c.in-Ok.ensures.ok in
-    rw c.from.ensures (unjudged IsVerdict Valid Invalid Draws c.args.part _ _ _ _ _ _ _ whole refl c.in-Err-check_buffered.fault (λ is.
-    let (prefix, rest, byte, has, full, rest_is) = c.in-Err-check_buffered.ensures.limit (ap Err is) in
+pub returns-in_err-verdict : goal.returns-in_err-verdict
+returns-in_err-verdict g c =
+    let whole = c.in_ok-text.ensures.ok in
+    let p = err_from_is_err_and c.from_residual-in_err-verdict.result c.from_residual-in_err-verdict.ensures.1 in
+    rw (p.1, p.2) (unjudged IsVerdict Valid Invalid Draws c.args.part _ _ _ _ _ _ _ whole refl c.in_err-verdict.field-0.0 (λ is.
+    let (prefix, rest, byte, has, full, rest_is) = c.in_err-verdict.ensures.limit (ap Err is) in
     too_long c.as_slice-input.result.now (flat_map line_text prefix) rest byte (Some c.check_buffered.new.reader.now)
     (rw c.as_slice-input.ensures.value whole.at_most) full has.taken))
 
 -- it is no trace
 pub returns-in_default : goal.returns-in_default
 returns-in_default g c =
-    judged IsVerdict Valid Invalid Draws c.args.part _ _ _ _ _ _ c.in-Ok-check_buffered.verdict c.in-Ok.ensures.ok (rw c.as_slice-input.ensures.value at c.in-Ok-check_buffered.ensures.ok)
-    (nothing c.args.part c.in-Ok.read.items (g.W.Write.contents c.args.writer.now) c.in-Ok-check_buffered.verdict c.in_default.not-Valid) (λ line why is. refl)
+    judged IsVerdict Valid Invalid Draws c.args.part _ _ _ _ _ _ c.in_ok-verdict.verdict c.in_ok-text.ensures.ok (rw c.as_slice-input.ensures.value at c.in_ok-verdict.ensures.ok)
+    (nothing c.args.part c.in_ok-text.field-0.items (g.W.Write.contents c.args.writer.now) c.in_ok-verdict.verdict c.in_default.not-Valid) (λ line why is. refl)
 
 -- it has lines
 pub write_picture-requires : goal.write_picture-requires
 write_picture-requires g c =
-    let verdict = rw c.as_slice-input.ensures.value at c.in-Ok-check_buffered.ensures.ok in
-    rw c.as_slice-input.ensures.value (trace_has_lines c.in-Ok.read.items c.in-Valid.requests c.in-Valid.messages (rw c.in-Valid.is at verdict))
+    let verdict = rw c.as_slice-input.ensures.value at c.in_ok-verdict.ensures.ok in
+    rw c.as_slice-input.ensures.value (trace_has_lines c.in_ok-text.field-0.items c.in-Valid.requests c.in-Valid.messages (rw c.in-Valid.is at verdict))
 
 -- the picture was not written
-pub returns-in-Err-write_picture : goal.returns-in-Err-write_picture
-returns-in-Err-write_picture g c =
-    let verdict = rw c.as_slice-input.ensures.value at c.in-Ok-check_buffered.ensures.ok in
-    (undrawn IsVerdict Valid Invalid Draws c.args.part _ _ _ _ _ _ _ c.in-Ok.ensures.ok c.in-Valid.requests c.in-Valid.messages
-    (rw c.in-Valid.is at verdict) c.in-Err-write_picture.fault (rw c.as_slice-input.ensures.value at c.in-Err-write_picture.ensures.err))
+pub returns-in_err-write_picture : goal.returns-in_err-write_picture
+returns-in_err-write_picture g c =
+    let verdict = rw c.as_slice-input.ensures.value at c.in_ok-verdict.ensures.ok in
+    let p = err_from_is_err_and c.from_residual-in_err-write_picture.result c.from_residual-in_err-write_picture.ensures.1 in
+    rw (p.1, p.2) (undrawn IsVerdict Valid Invalid Draws c.args.part _ _ _ _ _ _ _ c.in_ok-text.ensures.ok c.in-Valid.requests c.in-Valid.messages
+    (rw c.in-Valid.is at verdict) c.in_err-write_picture.field-0.0 (rw c.as_slice-input.ensures.value at c.in_err-write_picture.ensures.err))
 
 -- it was written
-pub returns-in-Ok-write_picture : goal.returns-in-Ok-write_picture
-returns-in-Ok-write_picture g c =
-    let verdict = rw c.as_slice-input.ensures.value at c.in-Ok-check_buffered.ensures.ok in
-    judged IsVerdict Valid Invalid Draws c.args.part _ _ _ _ _ _ (Valid c.in-Valid.requests c.in-Valid.messages) c.in-Ok.ensures.ok
-    (rw c.in-Valid.is at verdict) (rw c.as_slice-input.ensures.value at c.in-Ok-write_picture.ensures.ok) (λ line why is. absurd cc)
+pub returns : goal.returns
+returns g c =
+    let verdict = rw c.as_slice-input.ensures.value at c.in_ok-verdict.ensures.ok in
+    judged IsVerdict Valid Invalid Draws c.args.part _ _ _ _ _ _ (Valid c.in-Valid.requests c.in-Valid.messages) c.in_ok-text.ensures.ok
+    (rw c.in-Valid.is at verdict) (rw c.as_slice-input.ensures.value at c.in_ok-write_picture.ensures.ok) (λ line why is. absurd cc)
