@@ -1,0 +1,12 @@
+use Rattle.ra_clients.proofs.Leaving.{leaving_after, sound_after}
+use Rattle.ra_clients.proofs.NamedUses.{one_less}
+use Rattle.ra_clients.proofs.laws.who_is_gone_gives_all_back.Goals as goal
+
+pub returns-clause-sound : goal.returns-clause-sound
+returns-clause-sound c = sound_after
+
+pub returns-clause-leaving : goal.returns-clause-leaving
+returns-clause-leaving c = leaving_after
+
+pub returns-clause-fewer : goal.returns-clause-fewer
+returns-clause-fewer c = one_less

@@ -1,0 +1,83 @@
+-- What is true of the clients of a host, whatever happens.
+use Rattle.std.specs.Prelude.{◌≡◌, ◌≢◌, ◌⊎◌, ℕ, Bool, true, false, List, [], ◌∷◌, Option, Some, None, Contains}
+use Rattle.ra_book.specs.declared.book.event.BookKind.{BookKind}
+use Rattle.ra_book.specs.declared.book.event.BookKind.TheVariants.{Leave}
+use Rattle.ra_host_text.specs.declared.answer.Answer.{Answer}
+use Rattle.ra_host_text.specs.declared.answer.Answer.TheVariants.{Granted, Unlocked}
+use Rattle.ra_host_text.specs.declared.answer.Refusal.{Refusal}
+use Rattle.ra_clients.specs.declared.uses.NameUse.{NameUse}
+use Rattle.ra_clients.specs.declared.uses.Standing.TheVariants.{Holds}
+use Rattle.ra_clients.specs.Uses.{use_of, waits}
+use Rattle.ra_clients.specs.Clients.{Limits, Clients, Turn, Turns, Event, given_back}
+use Rattle.ra_clients.specs.Clients.Event.{Refuse, Enter}
+
+-- ---- What becomes of a use
+
+-- the client with this number holds the name
+pub record IsHolder (s : Clients) (k : ℕ) (name : List ℕ) : Type 0 where
+  pub use_now : NameUse
+  pub is : use_of name (s.uses_of k) ≡ Some use_now
+  pub holds : use_now.standing ≡ Holds
+
+-- the client holds the name still, or its node is to give it back
+abbrev pub HoldsOrLeaves : ℕ → List ℕ → Turn → Type 0
+HoldsOrLeaves k name t = IsHolder t.clients k name ⊎ (t.does ≡ Some (Leave k name))
+
+-- the client has the name still: it holds it if it held it
+pub record HasStill (before : NameUse) (s : Clients) (k : ℕ) (name : List ℕ) : Type 0 where
+  pub use_now : NameUse
+  pub is : use_of name (s.uses_of k) ≡ Some use_now
+  pub holds : before.standing ≡ Holds → use_now.standing ≡ Holds
+
+-- it waited, and its node has refused the request
+pub record IsRefused (before : NameUse) (e : Event) (k : ℕ) (name : List ℕ) : Type 0 where
+  pub why : Refusal
+  pub event : e ≡ Refuse k name why
+  pub waited : waits before.standing ≡ true
+
+-- in this turn, a client that had a name has it still, or its node is to give it back, or has refused it
+abbrev pub IsAccountedFor : NameUse → Event → ℕ → List ℕ → Turn → Type 0
+IsAccountedFor before e k name t =
+    HasStill before t.clients k name
+    ⊎ ((t.does ≡ Some (given_back k name before.standing)) ⊎ IsRefused before e k name)
+
+-- ---- What is told
+
+-- this turn tells a connection that its client holds the name, with this number and node
+abbrev pub TellsGranted : Turn → ℕ → List ℕ → ℕ → ℕ → Type 0
+TellsGranted t c name seq node = Contains t.tells (c, Granted name seq node)
+
+-- its node let the client of this connection in, so that it holds the name
+pub record IsGrant (s : Clients) (e : Event) (c : ℕ) (name : List ℕ) (seq node : ℕ) (t : Turn) : Type 0 where
+  pub number : ℕ
+  pub event : e ≡ Enter number name seq node
+  pub connection : s.connection_of number ≡ Some c
+  pub holds : IsHolder t.clients number name
+
+-- its client is told that it holds the name no longer
+pub record TellsUnlocked (s : Clients) (k : ℕ) (name : List ℕ) (t : Turn) : Type 0 where
+  pub client : ℕ
+  pub number : s.number_of client ≡ Some k
+  pub tells_it : t.tells ≡ (client, Unlocked name) ∷ []
+
+-- ---- Many turns
+
+-- these events, each with its turn, lead from the old state to the new one, in order
+abbrev pub Lead : Limits → Clients → List (Event × Turn) → Clients → Type 0
+Lead l old [] new = new ≡ old
+Lead l old (e ∷ es) new = Turns l old e.0 e.1 × Lead l e.1.clients es new
+
+-- in none of these turns is its node to give the name back
+abbrev pub NeverLeaves : ℕ → List ℕ → List (Event × Turn) → Type 0
+NeverLeaves k name [] = Unit {0}
+NeverLeaves k name (e ∷ es) = (e.1.does ≢ Some (Leave k name)) × NeverLeaves k name es
+
+-- ---- Who has which number
+
+-- the number of a connection is that of its client
+pub record IsSound (s : Clients) : Type 0 where
+  pub each : (c k : ℕ) → s.number_of c ≡ Some k → s.connection_of k ≡ Some c
+
+-- the client has no name that it did not have
+abbrev pub GetsNoName : Clients → ℕ → Clients → Type 0
+GetsNoName s k new = (name : List ℕ) → use_of name (s.uses_of k) ≡ None → use_of name (new.uses_of k) ≡ None

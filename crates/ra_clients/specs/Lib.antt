@@ -1,0 +1,6 @@
+pub mod Uses
+pub mod Numbers
+pub mod NumberUse
+pub mod Times
+pub mod Clients
+pub mod Laws

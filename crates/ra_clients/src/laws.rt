@@ -1,0 +1,38 @@
+//! What is true of the clients of a host, whatever happens. Each function does nothing, and its contract is the law.
+ghost use Rattle.std.specs.Prelude.{◌≡◌, ◌≢◌, ◌⊎◌, ◌+◌, ℕ, List, [], Some, length};
+ghost use Rattle.ra_book.specs.declared.book.event.BookKind.TheVariants.{Leave};
+ghost use Rattle.ra_clients.specs.declared.uses.NameUse.{NameUse};
+ghost use Rattle.ra_clients.specs.Uses.{use_of, without};
+ghost use Rattle.ra_clients.specs.Clients.{Limits, Clients, Event, IsLeaving, Turn, Turns};
+ghost use Rattle.ra_clients.specs.Laws.{HoldsOrLeaves, IsAccountedFor, IsGrant, IsHolder, IsSound, Lead, NeverLeaves, TellsGranted, TellsUnlocked};
+
+/// Told is held: a client that is told `granted` holds the name, since its node let it in in this very turn. It holds
+/// the name until its node is to give it back, which comes only if the client is told `unlocked` in the same turn, or is
+/// gone, or is one of before the start that is released.
+pub fn what_is_told_is_held()
+    ensures granted { (l : Limits) (s : Clients) (e : Event) (t : Turn) (c : ℕ) (name : List ℕ) (seq node : ℕ)
+        → Turns l s e t → TellsGranted t c name seq node → IsGrant s e c name seq node t }
+    ensures lasts { (l : Limits) (s : Clients) (e : Event) (t : Turn) (k : ℕ) (name : List ℕ) → Turns l s e t
+        → IsHolder s k name → HoldsOrLeaves k name t }
+    ensures runs { (l : Limits) (old new : Clients) (turns : List (Event × Turn)) (k : ℕ) (name : List ℕ)
+        → Lead l old turns new → IsHolder old k name → NeverLeaves k name turns → IsHolder new k name }
+    ensures ends { (l : Limits) (s : Clients) (e : Event) (t : Turn) (k : ℕ) (name : List ℕ) → Turns l s e t
+        → t.does ≡ Some (Leave k name) → TellsUnlocked s k name t ⊎ IsLeaving s k }
+{}
+
+/// No name is lost: in each turn, a client that had a name has it still, or its node is to give it back or to cancel
+/// it, or has refused it.
+pub fn no_name_is_lost()
+    ensures { (l : Limits) (s : Clients) (e : Event) (t : Turn) (k : ℕ) (name : List ℕ) (had : NameUse)
+        → Turns l s e t → use_of name (s.uses_of k) ≡ Some had → IsAccountedFor had e k name t }
+{}
+
+/// Who is gone gives all names back: a client whose names are to be given back has no connection until it has no name.
+/// Each name that its node is to give back or to cancel is one name less.
+pub fn who_is_gone_gives_all_back()
+    ensures sound { (l : Limits) (s : Clients) (e : Event) (t : Turn) → Turns l s e t → IsSound s → IsSound t.clients }
+    ensures leaving { (l : Limits) (s : Clients) (e : Event) (t : Turn) (k : ℕ) → Turns l s e t → IsLeaving s k
+        → s.uses_of k ≢ [] → IsLeaving t.clients k }
+    ensures fewer { (name : List ℕ) (uses : List NameUse) (had : NameUse) → use_of name uses ≡ Some had
+        → length (without name uses) + 1 ≡ length uses }
+{}

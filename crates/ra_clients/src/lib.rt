@@ -1,0 +1,15 @@
+//! The clients of a host, as a pure machine: which names each holds or waits for, since when, and until when it waits.
+//!
+//! As yet this crate has the machine (specs/Clients) with its laws, and parts for its code: the names of one client, the
+//! numbers by which the book knows clients, the times at which they give up, and the limits.
+#![tactic(auto)]
+
+mod laws;
+mod limits;
+mod numbers;
+mod times;
+mod uses;
+
+pub use laws::{no_name_is_lost, what_is_told_is_held, who_is_gone_gives_all_back};
+pub use limits::Limits;
+pub use uses::{NameUse, Standing};
