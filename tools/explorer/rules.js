@@ -1,32 +1,16 @@
-"use strict";
 // The rules of the algorithm, for the traces of version 3. No script has their cancels and forgets, so `ra sim --state` cannot be
 // asked for the nodes: the page makes each step by these rules. It then has `ra check` confirm what stands after them.
+import {conflict, isEarlier} from "./table.js";
+import {isSame, lineOf, messageOf} from "./texts.js";
 
-const COMPATIBLE = new Set(["IS IS", "IS IX", "IX IS", "IX IX", "IS S", "S IS", "S S", "IS SIX", "SIX IS"]);
-const conflict = (one, other) => !COMPATIBLE.has(`${one} ${other}`);
-
-// Tells whether a request goes before another one.
-const isEarlier = (one, other) => one.number < other.number || (one.number === other.number && one.node < other.node);
-
-const lineOf = ({kind, from, to, name, mode, number}) => [kind, from, to, name, ...(mode ? [mode] : []), number].join(" ");
-
-const isSame = (one, other) => ["kind", "from", "to", "name", "mode", "number"].every((key) => one[key] === other[key]);
-
-// Reads the message that the line of a step names.
-function messageOf(words) {
-    const [, kind, from, to, name, ...rest] = words;
-    return {kind, from: Number(from), to: Number(to), name, mode: kind === "request" ? rest[0] : null,
-        number: Number(rest[rest.length - 1])};
-}
-
-const cellAt = (state, node, name) => state.cells.find((cell) => cell.node === node && cell.name === name);
+export const cellAt = (state, node, name) => state.cells.find((cell) => cell.node === node && cell.name === name);
 
 const othersOf = (nodes, node) => Array.from({length: nodes}, (_, place) => place + 1).filter((other) => other !== node);
 
 const IDLE = {phase: "idle", client: null, mode: null, number: 0, awaits: [], defers: []};
 
 // Returns the state in which nothing has happened yet.
-function beginningOf(nodes, names) {
+export function beginningOf(nodes, names) {
     const numbers = Array.from({length: nodes}, (_, place) => place + 1);
     const cells = numbers.flatMap((node) => names.map((name) => ({node, name, highest: 0, ...structuredClone(IDLE), queued: []})));
     return {nodes, steps: 0, cells, messages: [], clients: [], waiting: [], holding: []};
@@ -137,7 +121,7 @@ class Making {
 }
 
 // Makes a step, the line of a trace, and returns what stands after it, with the lines of what it sent and of its marks.
-function makeStep(before, line) {
+export function makeStep(before, line) {
     const words = line.split(" "), made = new Making(before);
     if (["ask", "release", "cancel", "forget"].includes(words[0])) made[words[0]](words);
     else made.carry(words);
@@ -148,7 +132,7 @@ function makeStep(before, line) {
 
 // Returns steps that show all of a state by what they send and mark: each request ends, each queued client gets its number and ends its
 // request, too, a new client asks for each name, and all messages under way are lost.
-function stepsThatShow(before, newcomer) {
+export function stepsThatShow(before, newcomer) {
     const steps = [];
     const make = (line) => steps.push(makeStep(steps.length ? steps[steps.length - 1].state : before, line));
     const now = () => steps.length ? steps[steps.length - 1].state : before;
