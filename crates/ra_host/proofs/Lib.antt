@@ -11,3 +11,11 @@ mod Grants
 mod Held
 mod Found
 mod ReadyHosts
+mod LinksHeld
+mod OutgoingKept
+mod PlayedBooks
+mod CountedFrames
+mod Rooms
+mod MadeFrames
+mod ReadyNodes
+mod TurnsOfCalls

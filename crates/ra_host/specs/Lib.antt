@@ -3,3 +3,9 @@ pub mod Host
 pub mod Hosts
 pub mod Projection
 pub mod Grants
+pub mod Running
+pub mod Outgoing
+pub mod Played
+pub mod Full
+pub mod Making
+pub mod Ready

@@ -1,6 +1,7 @@
 //! What is true of hosts. Each function does nothing, and its contract is the law.
 pub mod grants;
 pub mod hosts;
+pub mod running;
 
 ghost use Rattle.std.specs.Prelude.{ℕ, List, All};
 ghost use Rattle.ra_world.specs.Quiet.{IsQuiet};

@@ -1,0 +1,19 @@
+-- What a host keeps while it runs, and of which host of the machine it is that.
+use Rattle.std.specs.Prelude.{◌≡◌, ℕ, ◌-◌, true, Some, List, length, slice_get}
+use Rattle.ra_automaton.specs.State.{IsOtherNode}
+use Rattle.ra_book.specs.Book.{BookState}
+use Rattle.ra_book.specs.Pairs.{come_from}
+use Rattle.ra_host.specs.declared.links.Links.{Links}
+use Rattle.ra_host.specs.Host.{Host, IsOther}
+
+-- so many frames came from each other host, by the book
+abbrev pub HasTaken : BookState → List ℕ → Type 0
+HasTaken book taken =
+    (j : ℕ) → IsOtherNode book.me book.nodes j → slice_get taken (j - 1) ≡ Some (length (come_from j book))
+
+-- these are the links of this host, which is up
+pub record AreLinksOf (links : Links) (h : Host) : Type 0 where
+  pub up : h.up ≡ true
+  pub me : h.book.me ≡ links.me
+  pub nodes : h.book.nodes ≡ length links.links.items
+  pub each : (j : ℕ) → IsOther h j → slice_get links.links.items (j - 1) ≡ Some (h.links j)
