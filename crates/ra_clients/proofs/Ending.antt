@@ -12,7 +12,7 @@ use Rattle.ra_clients.specs.declared.uses.NameUse.{NameUse}
 use Rattle.ra_clients.specs.declared.uses.Standing.{Standing}
 use Rattle.ra_clients.specs.declared.uses.Standing.TheVariants.{Waits, Holds}
 use Rattle.ra_clients.specs.Uses.{use_of, waits_for, lock_refusal, is_past, until_of}
-use Rattle.ra_clients.specs.Clients.{Limits, Clients, Turn, Event, Turns, IsLeaving, numbered, asks_unless, locks_as, until_at, given_back, unlocks_use, unlocks_as}
+use Rattle.ra_clients.specs.Clients.{Limits, Clients, Turn, Event, Turns, IsLeaving, is_full, numbered, asks_unless, locks_as, until_at, given_back, unlocks_use, unlocks_as}
 use Rattle.ra_clients.specs.Clients.Event.{Lock, Unlock, Bad, Refuse, Enter, Gone, Time, Release, Give_up, Give_back}
 use Rattle.ra_clients.specs.Laws.{IsHolder, Lead, NeverLeaves, TellsUnlocked}
 use Rattle.ra_clients.proofs.Holding.{lasts}
@@ -39,7 +39,7 @@ module _ (k : ℕ) (name : List ℕ) where
   locks_because : (o : Option ℕ) (l : Limits) (unused : ℕ) (s : Clients) (c : ℕ) (other : List ℕ) (mode : Mode) (until : Option ℕ) → Because s (locks_as o l unused s c other mode until)
   locks_because (Some j) l unused s c other mode until = asks_because s (lock_refusal other l.names (s.uses_of j)) s c j other mode until
   locks_because None l unused s c other mode until =
-      cond_both (nat_le l.clients s.count) _ _ (Because s) (λ _ is. absurd (nothing (Leave k name) is))
+      cond_both (is_full l s) _ _ (Because s) (λ _ is. absurd (nothing (Leave k name) is))
       (λ _. asks_because s (lock_refusal other l.names (s.uses_of unused)) (numbered s c unused) c unused other mode until)
 
   unlocks_because : (o : Option NameUse) (s : Clients) (c j : ℕ) (other : List ℕ) → s.number_of c ≡ Some j → Because s (unlocks_use o s c j other)

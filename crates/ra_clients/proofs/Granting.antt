@@ -10,16 +10,16 @@ use Rattle.ra_host_text.specs.declared.answer.Refusal.TheVariants.{Limit, NotHel
 use Rattle.ra_clients.specs.declared.uses.NameUse.{NameUse}
 use Rattle.ra_clients.specs.declared.uses.Standing.{Standing}
 use Rattle.ra_clients.specs.Uses.{use_of, waits_for, waits_if_some, let_in, held_use, lock_refusal}
-use Rattle.ra_clients.specs.Clients.{Limits, Clients, Turn, Event, Turns, told, with_uses, numbered, asks_unless, locks_as, until_at, ends, unlocks_use, unlocks_as}
+use Rattle.ra_clients.specs.Clients.{Limits, Clients, Turn, Event, Turns, told, with_uses, is_full, numbered, asks_unless, locks_as, until_at, ends, unlocks_use, unlocks_as}
 use Rattle.ra_clients.specs.Clients.Event.{Lock, Unlock, Bad, Refuse, Enter, Gone, Time, Release, Give_up, Give_back}
 use Rattle.ra_clients.specs.Laws.{IsHolder, IsGrant, TellsGranted}
 use Rattle.ra_clients.proofs.Holding.{at_same}
 use Rattle.ra_clients.proofs.NamedUses.{none_some, after_entry}
 
-nothing_in : (x : ℕ × Answer) → Contains [] x → ⊥
+pub nothing_in : (x : ℕ × Answer) → Contains [] x → ⊥
 nothing_in x (k, low, is) = absurd (omega (arith, low))
 
-only_one : (x y : ℕ × Answer) → Contains (x ∷ []) y → x ≡ y
+pub only_one : (x y : ℕ × Answer) → Contains (x ∷ []) y → x ≡ y
 only_one x y (zero, low, is) = is
 only_one x y (suc k, low, is) = absurd (omega (arith, low))
 
@@ -57,7 +57,7 @@ module _ (c : ℕ) (name : List ℕ) (seq node : ℕ) where
   locks_quiet : (o : Option ℕ) (l : Limits) (unused : ℕ) (s : Clients) (d : ℕ) (other : List ℕ) (mode : Mode) (until : Option ℕ) → Quiet (locks_as o l unused s d other mode until)
   locks_quiet (Some j) l unused s d other mode until = asks_quiet (lock_refusal other l.names (s.uses_of j)) s d j other mode until
   locks_quiet None l unused s d other mode until =
-      cond_both (nat_le l.clients s.count) _ _ Quiet (λ _. refused d other Limit)
+      cond_both (is_full l s) _ _ Quiet (λ _. refused d other Limit)
       (λ _. asks_quiet (lock_refusal other l.names (s.uses_of unused)) (numbered s d unused) d unused other mode until)
 
   unlocks_quiet : (o : Option NameUse) (s : Clients) (d j : ℕ) (other : List ℕ) → Quiet (unlocks_use o s d j other)

@@ -14,7 +14,7 @@ use Rattle.ra_clients.specs.declared.uses.NameUse.{NameUse}
 use Rattle.ra_clients.specs.declared.uses.Standing.{Standing}
 use Rattle.ra_clients.specs.declared.uses.Standing.TheVariants.{Waits, Holds}
 use Rattle.ra_clients.specs.Uses.{use_of, waits, waits_for, waits_if_some, new_use, let_in, held_use, without, lock_refusal}
-use Rattle.ra_clients.specs.Clients.{Limits, Clients, Turn, Event, Turns, silent, tells, with_uses, numbered, asks_unless, asks, locks_as, locks, until_at, told, takes_back, enters, given_back, ends, unlocks_use, unlocks_as, unlocks, closes, unconnected, goes, times_out, gives_back}
+use Rattle.ra_clients.specs.Clients.{Limits, Clients, Turn, Event, Turns, silent, tells, with_uses, is_full, numbered, asks_unless, asks, locks_as, locks, until_at, told, takes_back, enters, given_back, ends, unlocks_use, unlocks_as, unlocks, closes, unconnected, goes, times_out, gives_back}
 use Rattle.ra_clients.specs.Clients.Event.{Lock, Unlock, Bad, Refuse, Enter, Gone, Time, Release, Give_up, Give_back}
 use Rattle.ra_clients.specs.Laws.{IsHolder, HoldsOrLeaves, HasStill, IsRefused, IsAccountedFor}
 use Rattle.ra_clients.proofs.NamedUses.{its_own, same_name, after_push, after_end, after_other_entry, after_entry}
@@ -64,7 +64,7 @@ module _ (u : NameUse) (e : Event) (k : ℕ) (name : List ℕ) where
   locks_stay : (o : Option ℕ) (l : Limits) (unused : ℕ) (s : Clients) (c : ℕ) (other : List ℕ) (mode : Mode) (until : Option ℕ) → Has s → Accounts (locks_as o l unused s c other mode until)
   locks_stay (Some j) l unused s c other mode until has = asks_stay (lock_refusal other l.names (s.uses_of j)) s c j other mode until has
   locks_stay None l unused s c other mode until has =
-      cond_both (nat_le l.clients s.count) _ _ Accounts (λ _. inl (same_uses u s k name has s refl))
+      cond_both (is_full l s) _ _ Accounts (λ _. inl (same_uses u s k name has s refl))
       (λ _. asks_stay (lock_refusal other l.names (s.uses_of unused)) (numbered s c unused) c unused other mode until has)
 
   -- a use ends

@@ -7,7 +7,7 @@ use Rattle.ra_stamp.specs.declared.mode.Mode.{Mode}
 use Rattle.ra_host_text.specs.declared.answer.Refusal.{Refusal}
 use Rattle.ra_clients.specs.declared.uses.NameUse.{NameUse}
 use Rattle.ra_clients.specs.Uses.{use_of, waits_for, lock_refusal}
-use Rattle.ra_clients.specs.Clients.{Limits, Clients, Turn, Event, Turns, IsUnused, IsFirstUnused, IsLeaving, numbered, asks_unless, locks_as, until_at, unlocks_use, unlocks_as, unconnected, goes}
+use Rattle.ra_clients.specs.Clients.{Limits, Clients, Turn, Event, Turns, IsUnused, IsFirstUnused, IsLeaving, is_full, numbered, asks_unless, locks_as, until_at, unlocks_use, unlocks_as, unconnected, goes}
 use Rattle.ra_clients.specs.Clients.Event.{Lock, Unlock, Bad, Refuse, Enter, Gone, Time, Release, Give_up, Give_back}
 use Rattle.ra_clients.specs.Laws.{IsSound}
 use Rattle.ra_clients.proofs.NamedUses.{none_some}
@@ -120,7 +120,7 @@ module _ (k : ℕ) (s : Clients) where
   locks_keep : (o : Option ℕ) (l : Limits) (unused : ℕ) (c : ℕ) (name : List ℕ) (mode : Mode) (until : Option ℕ) → IsUnused s unused → KeepsIn (locks_as o l unused s c name mode until)
   locks_keep (Some j) l unused c name mode until is = asks_keep (lock_refusal name l.names (s.uses_of j)) s c j name mode until
   locks_keep None l unused c name mode until is =
-      cond_both (nat_le l.clients s.count) _ _ KeepsIn (λ _. keeps_all k s)
+      cond_both (is_full l s) _ _ KeepsIn (λ _. keeps_all k s)
       (λ _.
       keeps_both k s (numbered s c unused) _ refl (keeps_numbered s c unused is k)
       (asks_keep (lock_refusal name l.names (s.uses_of unused)) (numbered s c unused) c unused name mode until))

@@ -3,4 +3,7 @@ pub mod NamedUses
 pub mod Holding
 pub mod Granting
 pub mod Ending
+pub mod Refusing
+pub mod Limited
 pub mod Leaving
+pub mod TimeOrder

@@ -83,11 +83,15 @@ asks_unless None s c k name mode until =
 abbrev pub asks : Limits → Clients → ℕ → ℕ → List ℕ → Mode → Option ℕ → Turn
 asks l s c k name mode until = asks_unless (lock_refusal name l.names (s.uses_of k)) s c k name mode until
 
+-- whether no further client may ask
+abbrev pub is_full : Limits → Clients → Bool
+is_full l s = nat_le l.clients s.count || nat_le l.names 0
+
 -- a client that has no number yet gets this one, unless there are as many clients as there may be
 abbrev pub locks_as : Option ℕ → Limits → ℕ → Clients → ℕ → List ℕ → Mode → Option ℕ → Turn
 locks_as (Some k) l unused s c name mode until = asks l s c k name mode until
 locks_as None l unused s c name mode until =
-    if nat_le l.clients s.count then tells s c (Refused name Limit)
+    if is_full l s then tells s c (Refused name Limit)
     else asks l (numbered s c unused) c unused name mode until
 
 -- when it gives up, if it does

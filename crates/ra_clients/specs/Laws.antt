@@ -1,5 +1,5 @@
 -- What is true of the clients of a host, whatever happens.
-use Rattle.std.specs.Prelude.{◌≡◌, ◌≢◌, ◌⊎◌, ℕ, Bool, true, false, List, [], ◌∷◌, Option, Some, None, Contains}
+use Rattle.std.specs.Prelude.{◌≡◌, ◌≢◌, ◌⊎◌, ℕ, ◌≤◌, Bool, true, false, List, [], ◌∷◌, Option, Some, None, Contains, length}
 use Rattle.ra_book.specs.declared.book.event.BookKind.{BookKind}
 use Rattle.ra_book.specs.declared.book.event.BookKind.TheVariants.{Leave}
 use Rattle.ra_host_text.specs.declared.answer.Answer.{Answer}
@@ -60,6 +60,11 @@ pub record TellsUnlocked (s : Clients) (k : ℕ) (name : List ℕ) (t : Turn) : 
   pub number : s.number_of client ≡ Some k
   pub tells_it : t.tells ≡ (client, Unlocked name) ∷ []
 
+-- a turn that tells a refusal changes nothing, but that the node has refused what it was asked just now
+abbrev pub ChangesNothing : Clients → Event → List ℕ → Refusal → Turn → Type 0
+ChangesNothing s e name why t =
+    ((t.clients ≡ s) × (t.does ≡ None)) ⊎ ((k : ℕ) × (e ≡ Refuse k name why))
+
 -- ---- Many turns
 
 -- these events, each with its turn, lead from the old state to the new one, in order
@@ -78,6 +83,6 @@ NeverLeaves k name (e ∷ es) = (e.1.does ≢ Some (Leave k name)) × NeverLeave
 pub record IsSound (s : Clients) : Type 0 where
   pub each : (c k : ℕ) → s.number_of c ≡ Some k → s.connection_of k ≡ Some c
 
--- the client has no name that it did not have
-abbrev pub GetsNoName : Clients → ℕ → Clients → Type 0
-GetsNoName s k new = (name : List ℕ) → use_of name (s.uses_of k) ≡ None → use_of name (new.uses_of k) ≡ None
+-- the client has no more names than it may have
+abbrev pub IsWithin : Limits → Clients → ℕ → Type 0
+IsWithin l s k = length (s.uses_of k) ≤ l.names

@@ -1,10 +1,12 @@
 //! What is true of the clients of a host, whatever happens. Each function does nothing, and its contract is the law.
-ghost use Rattle.std.specs.Prelude.{◌≡◌, ◌≢◌, ◌⊎◌, ◌+◌, ℕ, List, [], Some, length};
+ghost use Rattle.std.specs.Prelude.{◌≡◌, ◌≢◌, ◌⊎◌, ◌+◌, ℕ, List, [], Some, Contains, length};
 ghost use Rattle.ra_book.specs.declared.book.event.BookKind.TheVariants.{Leave};
+ghost use Rattle.ra_host_text.specs.declared.answer.Answer.TheVariants.{Refused};
+ghost use Rattle.ra_host_text.specs.declared.answer.Refusal.{Refusal};
 ghost use Rattle.ra_clients.specs.declared.uses.NameUse.{NameUse};
 ghost use Rattle.ra_clients.specs.Uses.{use_of, without};
 ghost use Rattle.ra_clients.specs.Clients.{Limits, Clients, Event, IsLeaving, Turn, Turns};
-ghost use Rattle.ra_clients.specs.Laws.{HoldsOrLeaves, IsAccountedFor, IsGrant, IsHolder, IsSound, Lead, NeverLeaves, TellsGranted, TellsUnlocked};
+ghost use Rattle.ra_clients.specs.Laws.{ChangesNothing, HoldsOrLeaves, IsAccountedFor, IsGrant, IsHolder, IsSound, IsWithin, Lead, NeverLeaves, TellsGranted, TellsUnlocked};
 
 /// Told is held: a client that is told `granted` holds the name, since its node let it in in this very turn. It holds
 /// the name until its node is to give it back, which comes only if the client is told `unlocked` in the same turn, or is
@@ -35,4 +37,17 @@ pub fn who_is_gone_gives_all_back()
         → s.uses_of k ≢ [] → IsLeaving t.clients k }
     ensures fewer { (name : List ℕ) (uses : List NameUse) (had : NameUse) → use_of name uses ≡ Some had
         → length (without name uses) + 1 ≡ length uses }
+{}
+
+/// A refusal changes nothing: if a client is told `refused`, nothing becomes of any client, and the node is to do nothing.
+/// Only if the node has refused what it was asked just now, the name goes again.
+pub fn refusals_change_nothing()
+    ensures { (l : Limits) (s : Clients) (e : Event) (t : Turn) (c : ℕ) (name : List ℕ) (why : Refusal)
+        → Turns l s e t → Contains t.tells (c, Refused name why) → ChangesNothing s e name why t }
+{}
+
+/// No client has more names than it may have, unless it had them before the start.
+pub fn clients_keep_within_their_limit()
+    ensures { (l : Limits) (s : Clients) (e : Event) (t : Turn) (k : ℕ) → Turns l s e t → IsWithin l s k
+        → IsWithin l t.clients k }
 {}

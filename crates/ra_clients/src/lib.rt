@@ -10,6 +10,9 @@ mod numbers;
 mod times;
 mod uses;
 
-pub use laws::{no_name_is_lost, what_is_told_is_held, who_is_gone_gives_all_back};
+pub use laws::{
+    clients_keep_within_their_limit, no_name_is_lost, refusals_change_nothing,
+    what_is_told_is_held, who_is_gone_gives_all_back,
+};
 pub use limits::Limits;
 pub use uses::{NameUse, Standing};

@@ -75,6 +75,7 @@ impl Numbers {
         ensures least { IfSome result (IsLeastFree self.old) }
         ensures takes { IfSome result (λ number. Takes self.old number self.new) }
         ensures none { IfNone result (AreAllUsed self.old) }
+        ensures unchanged { IfNone result ((other : ℕ) → is_used self.new other ≡ is_used self.old other) }
     {
         if let Some(number) = self.free.pop_first() {
             return Some(number);

@@ -16,7 +16,14 @@ not_above a b x y is =
     ]
 
 pub returns-then-until-now : goal.returns-then-until-now
-returns-then-until-now c = (c.in_ok-until.field-0.now.0, c.if-until-now.true, c.in_ok-until.ensures.member)
+returns-then-until-now c = (
+  c.in_ok-until.field-0.now.0,
+  c.if-until-now.true,
+  record {
+    is = c.in_ok-until.ensures.member;
+    first = λ other k has. not_above c.in_ok-until.field-0.now.0 other c.in_ok-until.field-0.now.1 k (c.in_ok-until.ensures.least (other, k) has);
+  },
+)
 
 pub returns-else-until-now : goal.returns-else-until-now
 returns-else-until-now c =
