@@ -218,8 +218,23 @@ shown_without_last filled slots i last shown some =
       small = count_without_last 16 filled.small.items filled.gone slots i last old.small;
       middle = count_without_last 256 filled.middle.items filled.gone slots i last old.middle;
       large = count_without_last 4096 filled.large.items filled.gone slots i last old.large;
+      noted = sym (none_last slots i filled.noted_slot last) ∙ old.noted;
     }
+  where
+    none_last : (slots : List (Option Message)) (i n : ℕ) → i + 1 ≡ length slots → count_of (take n (set slots i None)) ≡ count_of (take n (take i slots))
+    none_last [] i n last = absurd (omega (arith, last))
+    none_last (slot ∷ slots) zero zero last = refl
+    none_last (slot ∷ []) zero (suc n) last = by n
+      where
+        by : (n : ℕ) → count_of (take n []) ≡ 0
+        by zero = refl
+        by (suc n) = refl
+    none_last (slot ∷ next ∷ slots) zero (suc n) last = absurd (omega (arith, last))
+    none_last (slot ∷ slots) (suc i) zero last = refl
+    none_last (None ∷ slots) (suc i) (suc n) last = none_last slots i n (omega (arith, last))
+    none_last (Some m ∷ slots) (suc i) (suc n) last = ap suc (none_last slots i n (omega (arith, last)))
 
 -- no slots have no counts
-pub none_shown : (filled : Filled) → filled.small.items ≡ [] → filled.middle.items ≡ [] → filled.large.items ≡ [] → filled.gone ≡ 0 → IsShown filled []
-none_shown filled small middle large gone = record { small = rw (small, gone); middle = rw (middle, gone); large = rw (large, gone) }
+pub none_shown : (filled : Filled) → filled.small.items ≡ [] → filled.middle.items ≡ [] → filled.large.items ≡ [] → filled.gone ≡ 0 → (filled.noted ≡ 0) × (filled.noted_slot ≡ 0) → IsShown filled []
+none_shown filled small middle large gone noted =
+    record { small = rw (small, gone); middle = rw (middle, gone); large = rw (large, gone); noted = ap (λ n. count_of (take n [])) noted.1 ∙ sym noted.0 }

@@ -17,11 +17,13 @@ AreCounts size (count ∷ counts) slots = (count ≡ count_of (take size slots))
 abbrev pub after_gone : ℕ → List (Option Message) → List (Option Message)
 after_gone gone slots = replicate gone None ++ slots
 
--- the counts are those of blocks of three sizes, into which the slots are cut with those that are gone
+-- the counts are those of blocks of three sizes, into which the slots are cut with those that are gone, and before the
+-- slot that is noted there are as many messages as the place that is noted
 pub record IsShown (filled : Filled) (slots : List (Option Message)) : Type 0 where
   pub small : AreCounts 16 filled.small.items (after_gone filled.gone slots)
   pub middle : AreCounts 256 filled.middle.items (after_gone filled.gone slots)
   pub large : AreCounts 4096 filled.large.items (after_gone filled.gone slots)
+  pub noted : count_of (take filled.noted_slot slots) ≡ filled.noted
 
 -- if anything is counted, the slots are
 abbrev pub KeepsShown : Filled → List (Option Message) → Type 0

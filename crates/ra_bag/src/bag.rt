@@ -120,6 +120,8 @@ impl Bag {
     {
         let at_near = slot_at(&self.slots, self.empty, &self.filled, near);
         if has(&self.slots, at_near, message) {
+            // `take_from` looks for it again.
+            self.filled.note(near, at_near);
             return Some(Found::At(near));
         }
         let slot = slot_with(

@@ -41,6 +41,10 @@ pub struct Filled {
     gone: usize,
     /// Whether the slots are to be counted.
     wanted: bool,
+    /// The place at which a message was found last, or 0 after a slot was added, emptied or gone.
+    noted: u64,
+    /// The slot of this place, so that it is not looked for again when the message is taken.
+    noted_slot: usize,
 }
 
 impl Filled {
@@ -54,6 +58,8 @@ impl Filled {
             large: Vec::new(alloc),
             gone: 0,
             wanted: false,
+            noted: 0,
+            noted_slot: 0,
         }
     }
 
@@ -131,6 +137,7 @@ impl Filled {
         requires middle { self.old.middle.items ≡ [] }
         requires large { self.old.large.items ≡ [] }
         requires gone { self.old.gone ≡ 0 }
+        requires noted { (self.old.noted ≡ 0) × (self.old.noted_slot ≡ 0) }
         ensures { OnOk result (IsShown self.new slots.now.items) }
     {
         for slot in 0..slots.len() {
@@ -183,6 +190,8 @@ impl Filled {
         let Some(at) = self.gone.checked_add(slot) else {
             return Err(Memory);
         };
+        self.noted = 0;
+        self.noted_slot = 0;
         let count = u64::from(kept.is_some());
         add_at(&mut self.small, at / SMALL, count)?;
         add_at(&mut self.middle, at / MIDDLE, count)?;
@@ -201,6 +210,8 @@ impl Filled {
             self.forget();
             return;
         };
+        self.noted = 0;
+        self.noted_slot = 0;
         take_one(&mut self.small, at / SMALL);
         take_one(&mut self.middle, at / MIDDLE);
         take_one(&mut self.large, at / LARGE);
@@ -212,9 +223,22 @@ impl Filled {
         ensures { (slots : List (Option Message)) → KeepsShown self.old (None ∷ slots) → KeepsShown self.new slots }
     {
         match self.gone.checked_add(1) {
-            Some(gone) => self.gone = gone,
+            Some(gone) => {
+                self.gone = gone;
+                self.noted = 0;
+                self.noted_slot = 0;
+            }
             None => self.forget(),
         }
+    }
+
+    /// Notes the slot of a place, until a slot is added, emptied or gone.
+    #[inline(always)]
+    pub fn note(&mut self, place: u64, slot: usize)
+        ensures { self.new ≡ record self.old { noted = place; noted_slot = slot } }
+    {
+        self.noted = place;
+        self.noted_slot = slot;
     }
 
     /// Forgets all counts.
@@ -223,7 +247,10 @@ impl Filled {
         ensures middle { self.new.middle.items ≡ [] }
         ensures large { self.new.large.items ≡ [] }
         ensures gone { self.new.gone ≡ 0 }
+        ensures noted { (self.new.noted ≡ 0) × (self.new.noted_slot ≡ 0) }
     {
+        self.noted = 0;
+        self.noted_slot = 0;
         self.small.truncate(0);
         self.middle.truncate(0);
         self.large.truncate(0);
@@ -240,6 +267,9 @@ impl Filled {
     {
         if !self.is_kept() {
             return (0, place);
+        }
+        if place == self.noted {
+            return (self.noted_slot, 0);
         }
         let (large, left) = skip_in(&self.large, 0, place);
         let Some(first) = large.checked_mul(BLOCKS) else {

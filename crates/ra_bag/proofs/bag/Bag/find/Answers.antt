@@ -2,13 +2,15 @@ use Rattle.std.proofs.Common.{◌≡◌, List, Some, Contains, refl, sym, ap, su
 use Rattle.std.specs.Prelude.{slice_get}
 use Rattle.ra_stamp.specs.Sequence.{Listed}
 use Rattle.ra_stamp.specs.declared.message.Message.{Message}
+use Rattle.ra_bag.specs.declared.filled.Filled.{Filled}
+use Rattle.ra_bag.specs.Filled.{KeepsShown}
 use Rattle.ra_bag.proofs.Emptied.{is_at_place, stands_at, same_place, in_no_place, of_none, none_is_some}
 use Rattle.ra_bag.proofs.bag.Bag.find.Goals as goal
 
 -- ---- At the place `near`
 
 pub returns-then-has-clause-same : goal.returns-then-has-clause-same
-returns-then-has-clause-same c = refl
+returns-then-has-clause-same c = c.self.view_is
 
 pub returns-then-has-clause-found : goal.returns-then-has-clause-found
 returns-then-has-clause-found c =
@@ -82,7 +84,19 @@ pub slot_with-requires-clause-shown : goal.slot_with-requires-clause-shown
 slot_with-requires-clause-shown c = c.self.invariant.3
 
 pub invariant_of-self : goal.invariant_of-self
-invariant_of-self c = (c.self.invariant.0, c.self.invariant.1, c.slot_with.ensures.told, c.slot_with.ensures.shown)
+invariant_of-self c =
+    let slots = c.self.inside.slots.items in
+    let there = c.if-has.ensures.value.0 refl in (
+      c.self.invariant.0,
+      c.self.invariant.1,
+      c.self.invariant.2,
+      subst (λ (filled : Filled). KeepsShown filled slots) (sym c.note.ensures) (λ kept.
+          let old = c.self.invariant.3 kept in
+          record { small = old.small; middle = old.middle; large = old.large; noted = c.slot_at-at_near.ensures.1 there.0 }),
+    )
 
 pub invariant_of-self-2 : goal.invariant_of-self-2
 invariant_of-self-2 c = (c.self.invariant.0, c.self.invariant.1, c.slot_with.ensures.told, c.slot_with.ensures.shown)
+
+pub invariant_of-self-in_err-slot : goal.invariant_of-self-in_err-slot
+invariant_of-self-in_err-slot c = (c.self.invariant.0, c.self.invariant.1, c.slot_with.ensures.told, c.slot_with.ensures.shown)

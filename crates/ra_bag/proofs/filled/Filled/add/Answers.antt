@@ -1,4 +1,4 @@
-use Rattle.std.proofs.Common.{rules, ◌≡◌, ◌/◌, ◌%◌, cond, arith}
+use Rattle.std.proofs.Common.{rules, ◌≡◌, ◌/◌, ◌%◌, cond, arith, refl}
 use Rattle.std.specs.Option.{is_some}
 use Rattle.ra_bag.proofs.Counts.{count_added}
 use Rattle.ra_bag.proofs.filled.Filled.add.Goals as goal
@@ -20,4 +20,5 @@ returns c = λ slots len shown.
       large =
           count_added 4096 c.args.self.now.large.items gone slots shown.large c.add_at-3.new.counts.items kept (at / 4096) (at % 4096) c.from-count.result
           (omega (arith, is, len)) (omega arith) one c.in_ok-add_at-3.ensures.there c.in_ok-add_at-3.ensures.after;
+      noted = refl;
     }

@@ -8,7 +8,7 @@ use Rattle.ra_bag.proofs.Counts.{none_shown}
 use Rattle.ra_bag.proofs.filled.Filled.learn_all.Goals as goal
 
 pub loop-slot-init : goal.loop-slot-init
-loop-slot-init c = none_shown c.args.self.now c.requires.small c.requires.middle c.requires.large c.requires.gone
+loop-slot-init c = none_shown c.args.self.now c.requires.small c.requires.middle c.requires.large c.requires.gone c.requires.noted
 
 pub returns-in_err-add : goal.returns-in_err-add
 returns-in_err-add c = IfOk-from_err c.from_residual.result _ c.from_residual.ensures.0

@@ -22,3 +22,9 @@ returns c = λ slots kept.
     ap (λ n. c.skip_in-small.result.1 + count_of (take n slots)) without
     ∙ ap (λ n. c.skip_in-small.result.1 + n) (sym (none_gone filled.gone c.in-Some-checked_mul-2.at slots))
     ∙ ap (λ n. c.skip_in-small.result.1 + count_of (take n all)) in_small ∙ small
+
+pub returns-then-place-self : goal.returns-then-place-self
+returns-then-place-self c = λ slots kept.
+    let some : length c.args.self.now.small.items ≢ 0 = search rules in
+    let same : c.args.place ≡ c.args.self.now.noted = search rules in
+    omega (arith, (kept some).noted, same)

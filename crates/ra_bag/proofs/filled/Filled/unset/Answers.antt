@@ -1,4 +1,4 @@
-use Rattle.std.proofs.Common.{◌/◌, ◌%◌, ◌∙◌, arith}
+use Rattle.std.proofs.Common.{◌/◌, ◌%◌, ◌∙◌, arith, refl}
 use Rattle.ra_bag.proofs.Counts.{count_taken}
 use Rattle.ra_bag.proofs.filled.Filled.unset.Goals as goal
 
@@ -18,4 +18,5 @@ returns c = λ slots lt some shown kept.
       large =
           count_taken 4096 c.args.self.now.large.items gone slots old.large c.take_one-3.new.counts.items c.args.slot at (at / 4096) (at % 4096)
           (omega (arith, is)) (omega arith) (omega arith) lt some c.take_one-3.ensures.less;
+      noted = refl;
     }
