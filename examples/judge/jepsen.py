@@ -17,8 +17,8 @@ from lines import Ended, Names, Refused, translate
 
 # A line of a log, or of history.txt, which has only its end.
 LOGGED = re.compile(r"(?:INFO\s+jepsen\.util\s+-\s+)?(\d+|:nemesis)\s+(:\w+)\s+(:[\w-]+)(?:\s+(.*))?", re.ASCII)
-# A map of EDN without these is words alone.
-SPECIAL = re.compile(r'[^ -~]|["#();\[\\\]{}]')
+# A map of EDN with nothing but these within it is words alone.
+PLAIN = bytes(range(ord(" "), ord("~") + 1)).translate(None, b'"#();[\\]{}')
 WORD = re.compile(r'#\{|"(?:\\.|[^"\\])*"|[^\s,"(){};\[\\\]]+|["(){};\[\\\]]', re.ASCII)
 CLOSING = {"{": "}", "#{": "}", "[": "]", "(": ")"}
 MUTEX, NEMESIS = (":acquire", ":release"), (":nemesis", "nemesis")
@@ -82,9 +82,10 @@ STRINGS = json.JSONDecoder(strict=False)
 JSON = json.JSONDecoder(object_pairs_hook=object_of, parse_constant=no_number)
 
 
-def operation(text):
+def operation(line):
     """Returns process, type, function, value and time of an operation, or `None` for another line of a log."""
-    if text.startswith("{:") and text.endswith("}") and not SPECIAL.search(text, 1, len(text) - 1):
+    text = line.decode()
+    if text.startswith("{:") and text.endswith("}") and not line[1:-1].translate(None, PLAIN):
         words = text[1:-1].replace(",", " ").split()
         found = dict(zip(words[::2], words[1::2]))
         if len(words) != 2 * len(found):
@@ -141,7 +142,7 @@ class History:
 
     def take(self, line, text, write):
         """Writes the marks of a line."""
-        found = operation(text.decode())
+        found = operation(text)
         if not found:
             return
         process, kind, function, value, time = found
