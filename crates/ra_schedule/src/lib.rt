@@ -26,6 +26,7 @@ pub use script::lock_order::{
     OutOfOrder, Unreleased, first_out_of_order, first_unreleased, is_unreleased,
 };
 pub use script::{Op, Script};
+pub use surveys::chances::Chances;
 pub use surveys::first_seed::{Ending, first_seed};
 pub use surveys::observer::Observer;
 pub use surveys::seed_outcomes::{RunCost, SeedOutcome, Spread, Survey, Tally};

@@ -1,4 +1,5 @@
 //! A script under many seeds.
+pub mod chances;
 pub mod first_seed;
 pub mod observer;
 pub mod seed_outcomes;
@@ -11,7 +12,7 @@ ghost use Rattle.ra_schedule.specs.Survey as spec;
 
 use crate::surveys::observer::Observer;
 use crate::surveys::seed_outcomes::{RunCost, SeedOutcome, Survey, no_survey, with_outcome};
-use crate::{DriveError, Faults, Policy, Script, SeedRange, summarize};
+use crate::{Chances, DriveError, Faults, Policy, Script, SeedRange, summarize};
 use ra_stamp::Memory;
 use std::alloc::Global;
 
@@ -57,9 +58,9 @@ pub fn outcome_of(
     }
 }
 
-/// Drives a cluster through a script by chance, with faults or without, under each seed of a range, each within `limit`
-/// turns, and counts their outcomes. The observer learns of each seed. It costs what [`summarize`] costs, for each
-/// seed, and keeps nothing of a run but its figures.
+/// Drives a cluster through a script by chance under each seed, each within `limit` turns, and counts their outcomes.
+/// The observer learns of each seed. It costs what [`summarize`] costs, for each seed, and keeps nothing of a run but
+/// its figures.
 ///
 /// # Errors
 ///
@@ -67,24 +68,25 @@ pub fn outcome_of(
 pub fn survey<O: Observer>(
     alloc: Global,
     script: &Script,
-    faults: Option<Faults>,
-    seeds: SeedRange,
+    chances: &Chances,
     limit: u64,
     observer: &mut O,
 ) -> Result<Survey, Memory>
-    ensures ok { IfOk result (IsSurvey script.now faults limit seeds.first seeds.last) }
-    ensures waiting_ends { IfOk result (SeedsFinish script.now faults limit seeds.first seeds.last) }
-    ensures told { OnOk result (TellsSeeds script.now faults limit seeds.first (seeds.last + 1 - seeds.first)
-        (O.told observer.old) (O.told observer.new)) }
-    ensures err { OnErr result (TellsSomeSeeds script.now faults limit seeds.first seeds.last
-        (O.told observer.old) (O.told observer.new)) }
+    ensures ok { IfOk result
+        (IsSurvey script.now chances.now.faults limit chances.now.seeds.first chances.now.seeds.last) }
+    ensures waiting_ends { IfOk result
+        (SeedsFinish script.now chances.now.faults limit chances.now.seeds.first chances.now.seeds.last) }
+    ensures told { OnOk result (TellsSeeds script.now chances.now.faults limit chances.now.seeds.first
+        (chances.now.seeds.last + 1 - chances.now.seeds.first) (O.told observer.old) (O.told observer.new)) }
+    ensures err { OnErr result (TellsSomeSeeds script.now chances.now.faults limit chances.now.seeds.first
+        chances.now.seeds.last (O.told observer.old) (O.told observer.new)) }
 {
     // For the proof: the script is within its limits.
     script.limits_hold();
-    let SeedRange { first, last } = seeds;
+    let SeedRange { first, last } = chances.seeds;
     let mut survey = no_survey();
     for seed in first..=last {
-        let outcome = outcome_of(alloc, script, &faults, seed, limit)?;
+        let outcome = outcome_of(alloc, script, &chances.faults, seed, limit)?;
         observer.ended(seed, outcome);
         survey = with_outcome(survey, seed, outcome);
     }

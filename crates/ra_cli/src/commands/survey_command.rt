@@ -16,7 +16,7 @@ use crate::output::{ALL_DONE, CommandOutcome, UNFINISHED, print_text, refuse};
 use crate::refusal_lines::CommandRefusal;
 use crate::remark::Remark;
 use ra_arguments::{Search, SurveyTask};
-use ra_schedule::{ChoicesError, Ending, Observer, Script, Survey, survey};
+use ra_schedule::{Chances, ChoicesError, Ending, Observer, Script, Survey, survey};
 use ra_script::{MAX_TURNS, Printed, find_run};
 use ra_stamp::Memory;
 use std::alloc::Global;
@@ -44,14 +44,11 @@ fn counted_of<O: Observer>(
     ensures { (input : List ℕ) → script_of input ≡ Ok script.now
         → IfOk result (λ told. IsSurveyed asked.now input (string_bytes told.text) told.finished) }
 {
-    let counted = survey(
-        alloc,
-        script,
-        asked.faults,
-        asked.seeds,
-        MAX_TURNS,
-        observer,
-    )?;
+    let chances = Chances {
+        seeds: asked.seeds,
+        faults: asked.faults,
+    };
+    let counted = survey(alloc, script, &chances, MAX_TURNS, observer)?;
     let text = survey_text(alloc, &counted)?;
     Ok(Printed {
         text,
@@ -83,15 +80,11 @@ fn found_of<O: Observer>(
         input }
 {
     let Search { ending, format } = search;
-    if let Some(found) = find_run(
-        alloc,
-        script,
-        asked.faults,
-        ending,
-        asked.seeds,
-        format,
-        observer,
-    )? {
+    let chances = Chances {
+        seeds: asked.seeds,
+        faults: asked.faults,
+    };
+    if let Some(found) = find_run(alloc, script, &chances, ending, format, observer)? {
         return Ok(found);
     }
     let Ok(text) = String::from_str(alloc, "none\n") else {

@@ -7,7 +7,7 @@ ghost use Rattle.ra_schedule.specs.Telling.{TellsSeeds, TellsSomeSeeds, tried};
 use crate::surveys::observer::Observer;
 use crate::surveys::outcome_of;
 use crate::surveys::seed_outcomes::SeedOutcome;
-use crate::{Faults, Script, SeedRange};
+use crate::{Chances, Script, SeedRange};
 use ra_stamp::Memory;
 use std::alloc::Global;
 
@@ -30,9 +30,8 @@ fn is_end(ending: Ending, outcome: SeedOutcome) -> bool
     }
 }
 
-/// Looks for the least seed of a range with which a script comes to this end by chance, with faults or without, within
-/// `limit` turns. The observer learns of each seed up to that one. It costs what [`summarize`](crate::summarize) costs,
-/// for each of them.
+/// Looks for the least seed with which a script comes to this end by chance, within `limit` turns. The observer learns
+/// of each seed up to that one. It costs what [`summarize`](crate::summarize) costs, for each of them.
 ///
 /// # Errors
 ///
@@ -40,22 +39,22 @@ fn is_end(ending: Ending, outcome: SeedOutcome) -> bool
 pub fn first_seed<O: Observer>(
     alloc: Global,
     script: &Script,
-    faults: Option<Faults>,
+    chances: &Chances,
     ending: Ending,
-    seeds: SeedRange,
     limit: u64,
     observer: &mut O,
 ) -> Result<Option<u64>, Memory>
-    ensures ok { IfOk result (IsFirstSeed script.now faults limit ending seeds.first seeds.last) }
+    ensures ok { IfOk result
+        (IsFirstSeed script.now chances.now.faults limit ending chances.now.seeds.first chances.now.seeds.last) }
     ensures told { IfOk result
-        (λ found. TellsSeeds script.now faults limit seeds.first (tried seeds.first seeds.last found)
-        (O.told observer.old) (O.told observer.new)) }
-    ensures err { OnErr result (TellsSomeSeeds script.now faults limit seeds.first seeds.last
-        (O.told observer.old) (O.told observer.new)) }
+        (λ found. TellsSeeds script.now chances.now.faults limit chances.now.seeds.first
+        (tried chances.now.seeds.first chances.now.seeds.last found) (O.told observer.old) (O.told observer.new)) }
+    ensures err { OnErr result (TellsSomeSeeds script.now chances.now.faults limit chances.now.seeds.first
+        chances.now.seeds.last (O.told observer.old) (O.told observer.new)) }
 {
-    let SeedRange { first, last } = seeds;
+    let SeedRange { first, last } = chances.seeds;
     for seed in first..=last {
-        let outcome = outcome_of(alloc, script, &faults, seed, limit)?;
+        let outcome = outcome_of(alloc, script, &chances.faults, seed, limit)?;
         observer.ended(seed, outcome);
         if is_end(ending, outcome) {
             return Ok(Some(seed));

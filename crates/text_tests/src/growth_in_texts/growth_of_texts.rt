@@ -16,7 +16,7 @@ use crate::trace_tests::traced_steps::{assert_left, fault_of_steps, steps_of, te
 use ra_draw::{DrawError, Part};
 use ra_explain::Unanswered::WrongNode;
 use ra_frame::FrameError;
-use ra_schedule::{ChoicesError, Ending, Policy, SeedRange};
+use ra_schedule::{Chances, ChoicesError, Ending, Policy, SeedRange};
 use ra_script::{OutputKind, PerformError, ScriptError, find_run};
 use ra_stamp::Memory;
 use ra_trace::{Cause, MarksVerdict, TraceError, Verdict, WriteTraceError};
@@ -336,8 +336,11 @@ fn growth_of_what_is_said_of_frames(rt: HostRuntime) {
     assert_grown!(&rt, try_notes(&rt, "frames", OF_FRAMES));
 }
 
-/// Three seeds.
-const SEEDS: SeedRange = SeedRange { first: 5, last: 7 };
+/// Three seeds, without faults.
+const CHANCES: Chances = Chances {
+    seeds: SeedRange { first: 5, last: 7 },
+    faults: None,
+};
 
 /// Looks among three seeds for the trace of one that comes to an end, which is the first one or none. If that is
 /// refused, memory ran out.
@@ -349,7 +352,7 @@ fn try_search(
 ) -> Result<Tried, Memory> {
     let (alloc, at) = (rt.alloc(), row("a search for a trace"));
     let format = OutputKind::Trace;
-    match find_run(alloc, script, None, ending, SEEDS, format, &mut ()) {
+    match find_run(alloc, script, &CHANCES, ending, format, &mut ()) {
         Ok(Some(found)) => {
             let came = (true, found.finished, found.text.as_str());
             assert_same(rt, at, &came, &(is_there, true, ONE_LOCK));

@@ -1,7 +1,7 @@
 //! Each growth is refused in turn: the call returns `Memory`, leaves everything as it was, and succeeds when made
 //! again.
 use crate::run_tests::reported_runs::run_of;
-use crate::script_tests::listing::{found, lockers};
+use crate::script_tests::listing::lockers;
 use crate::script_tests::policies::{driven, summed};
 use crate::script_tests::scripts::{fault_of_client, fault_of_op};
 use crate::world_steps::alike_worlds::assert_alike;
@@ -10,8 +10,8 @@ use crate::world_steps::world_asserting::assert_same;
 use crate::world_steps::world_calls::{ASKS, LEAVES, fault_of, new_world, report_of, step};
 use Choice::{Client, Message};
 use ra_schedule::{
-    AddClientError, AddOpError, Choice, DriveError, Ending, Faults, NewScriptError, Observer, Op,
-    Policy, Script, SeedOutcome, SeedRange, Survey, Tally, survey,
+    AddClientError, AddOpError, Chances, Choice, DriveError, Ending, Faults, NewScriptError,
+    Observer, Op, Policy, Script, SeedOutcome, SeedRange, Survey, Tally, first_seed, survey,
 };
 use ra_stamp::{Mark, Memory, Mode, Name};
 use ra_text::mark_line;
@@ -497,8 +497,11 @@ fn assert_three_seeds(rt: &impl Abort, found: &Survey) {
     assert_same(rt, at, &seeds_of(found.limit), &None);
 }
 
-/// Three seeds.
-const SEEDS: SeedRange = SeedRange { first: 1, last: 3 };
+/// Three seeds, without faults.
+const CHANCES: Chances = Chances {
+    seeds: SeedRange { first: 1, last: 3 },
+    faults: None,
+};
 
 /// Asserts that an observer has learned of all three seeds, or not of the last one.
 fn assert_told(rt: &impl Abort, label: &str, count: &Count, is_all: bool) {
@@ -509,7 +512,7 @@ fn assert_told(rt: &impl Abort, label: &str, count: &Count, is_all: bool) {
 /// Surveys three seeds. If that is refused, memory ran out, and the observer was not told of the last seed.
 fn try_survey(rt: &(impl Abort + AllocGlobal), script: &Script) -> Result<Tried, Memory> {
     let mut count = Count { told: 0 };
-    let came = survey(rt.alloc(), script, None, SEEDS, 1_000, &mut count);
+    let came = survey(rt.alloc(), script, &CHANCES, 1_000, &mut count);
     assert_told(rt, "a survey", &count, came.is_ok());
     assert_three_seeds(rt, &came?);
     Ok(Tried::NoFailure)
@@ -519,7 +522,14 @@ fn try_survey(rt: &(impl Abort + AllocGlobal), script: &Script) -> Result<Tried,
 /// observer was not told of the last seed.
 fn try_search(rt: &(impl Abort + AllocGlobal), script: &Script) -> Result<Tried, Memory> {
     let (label, mut count) = ("a search", Count { told: 0 });
-    let came = found(rt.alloc(), script, Ending::Stuck, SEEDS, 1_000, &mut count);
+    let came = first_seed(
+        rt.alloc(),
+        script,
+        &CHANCES,
+        Ending::Stuck,
+        1_000,
+        &mut count,
+    );
     assert_told(rt, label, &count, came.is_ok());
     assert_same(rt, row(label), &came?, &None);
     Ok(Tried::NoFailure)

@@ -5,10 +5,9 @@ use crate::world_steps::world_asserting::assert_same;
 use Chooser::{Faulty, Newest, Oldest, Seeded};
 use Ending::{Finished, Stuck};
 use ra_schedule::{
-    Choice, Ending, Observer, Policy, RunCost, Script, SeedOutcome, SeedRange, Shrunk, first_seed,
-    shrink, survey,
+    Chances, Choice, Ending, Observer, Policy, RunCost, Script, SeedOutcome, SeedRange, Shrunk,
+    first_seed, shrink, survey,
 };
-use ra_stamp::Memory;
 use std::alloc::Global;
 use std::process::Abort;
 use test_support::{At, part, row};
@@ -252,18 +251,6 @@ fn runs_are_shrunk_to_those_of_a_model(rt: HostRuntime) {
     assert_listed_of_four(&rt, ROWS, true);
 }
 
-/// Returns the first seed of a range with which a script comes to this end within this many turns.
-pub fn found<O: Observer>(
-    alloc: Global,
-    script: &Script,
-    ending: Ending,
-    seeds: SeedRange,
-    limit: u64,
-    observer: &mut O,
-) -> Result<Option<u64>, Memory> {
-    first_seed(alloc, script, None, ending, seeds, limit, observer)
-}
-
 /// The first seed of a range with which one client of two nodes comes to an end. It takes four turns.
 struct First {
     shows: &'static str,
@@ -330,14 +317,20 @@ const FIRST: &[First] = &[
     },
 ];
 
+/// Makes chance without faults under each seed of a range.
+fn without_faults(first: u64, last: u64) -> Chances {
+    let seeds = SeedRange { first, last };
+    Chances {
+        seeds,
+        faults: None,
+    }
+}
+
 /// Asserts that the first seed is found for the script of a client.
 fn assert_first(rt: &(impl Abort + AllocGlobal), script: &Script) {
     for row in FIRST {
-        let seeds = SeedRange {
-            first: row.first,
-            last: row.last,
-        };
-        let seed = found(rt.alloc(), script, row.ending, seeds, row.limit, &mut ());
+        let chances = without_faults(row.first, row.last);
+        let seed = first_seed(rt.alloc(), script, &chances, row.ending, row.limit, &mut ());
         assert_same(rt, part(row.shows, "the first seed"), &seed, &Ok(row.found));
     }
 }
@@ -383,8 +376,11 @@ fn assert_told(rt: &impl Abort, label: &str, told: &Told, outcomes: &[(u64, Seed
     assert_same(rt, row(label), &came, &(true, outcomes));
 }
 
-/// The seeds that are surveyed and searched.
-const SEEDS: SeedRange = SeedRange { first: 5, last: 7 };
+/// The chances that are surveyed and searched.
+const CHANCES: Chances = Chances {
+    seeds: SeedRange { first: 5, last: 7 },
+    faults: None,
+};
 
 /// Asserts that a search among the seeds finds the first one or none, and tells these outcomes.
 fn assert_told_up_to(
@@ -396,7 +392,7 @@ fn assert_told_up_to(
     outcomes: &[(u64, SeedOutcome)],
 ) {
     let mut told = nothing_told(rt.alloc());
-    let seed = found(rt.alloc(), script, Finished, SEEDS, limit, &mut told);
+    let seed = first_seed(rt.alloc(), script, &CHANCES, Finished, limit, &mut told);
     assert_same(rt, row(label), &seed, &Ok(first));
     assert_told(rt, label, &told, outcomes);
 }
@@ -409,7 +405,7 @@ fn assert_told_each(rt: &(impl Abort + AllocGlobal), script: &Script) {
         (7, SeedOutcome::Limit),
     ];
     let (label, mut told) = ("a survey of three seeds", nothing_told(rt.alloc()));
-    let fault = survey(rt.alloc(), script, None, SEEDS, 4, &mut told).err();
+    let fault = survey(rt.alloc(), script, &CHANCES, 4, &mut told).err();
     assert_same(rt, row(label), &fault, &None);
     assert_told(
         rt,
