@@ -5,7 +5,7 @@ ghost use Rattle.std.specs.Prelude.{◌≡◌, ◌⊎◌, ℕ, List, All, MatchO
 ghost use Rattle.ra_script.specs.declared.output_kind.OutputKind.{OutputKind};
 ghost use Rattle.ra_schedule.specs.ChoicesText.{HasText, Lists};
 ghost use Rattle.ra_script.specs.Performed.{PerformsScript};
-ghost use Rattle.ra_script.specs.Printing.{PrintsRun};
+ghost use Rattle.ra_script.specs.Printing.{PrintsRun, trace_kind};
 
 use crate::laws::{choices_have_words_unless_messages_are_repeated, read_scripts_come_to_rest};
 use crate::performing::printed::Printed;
@@ -43,7 +43,8 @@ fn lines_of(alloc: Global, policy: &Policy, script: &Script) -> Result<Printed, 
     Ok(Printed { text, finished })
 }
 
-/// Drives a cluster through a script by a policy, and returns the trace of its run.
+/// Drives a cluster through a script by a policy, and returns the trace of its run, with the messages that each step
+/// sends or without.
 ///
 /// # Errors
 ///
@@ -51,40 +52,23 @@ fn lines_of(alloc: Global, policy: &Policy, script: &Script) -> Result<Printed, 
 ///
 /// 1. `Drive`: the policy can't go on.
 /// 2. `Memory`: memory ran out.
-fn trace_of(alloc: Global, policy: &Policy, script: &Script) -> Result<Printed, PerformError>
-    ensures { PrintsRun OutputKind.Trace policy.now script.now result }
-{
-    // For the proof: the run whose trace is written is the one that was recorded, as both have these steps.
-    runs_are_determined();
-    let recording = drive(alloc, script, policy, MAX_TURNS)?;
-    let text = trace_text(alloc, script.nodes(), 0, &recording.steps);
-    let finished = recording.finished;
-    // By a call, and before any exit: dropping each of its parts at an exit takes long to prove.
-    drop(recording);
-    match text {
-        Ok(text) => Ok(Printed { text, finished }),
-        // The steps are a run, so only `Memory` can come.
-        Err(_) => Err(PerformError::Memory),
-    }
-}
-
-/// Drives a cluster through a script by a policy, and returns the trace of its run, with the messages that each step
-/// sends.
-///
-/// # Errors
-///
-/// Those of `trace_of`.
-fn trace_with_sends_of(
+fn trace_of(
     alloc: Global,
     policy: &Policy,
     script: &Script,
+    has_sends: bool,
 ) -> Result<Printed, PerformError>
-    ensures { PrintsRun OutputKind.TraceWithSends policy.now script.now result }
+    ensures { PrintsRun (trace_kind has_sends) policy.now script.now result }
 {
     // For the proof: the run whose trace is written is the one that was recorded, as both have these steps.
     runs_are_determined();
     let recording = drive(alloc, script, policy, MAX_TURNS)?;
-    let text = trace_text_with_sends(alloc, script.nodes(), 0, &recording.steps);
+    let nodes = script.nodes();
+    let text = if has_sends {
+        trace_text_with_sends(alloc, nodes, 0, &recording.steps)
+    } else {
+        trace_text(alloc, nodes, 0, &recording.steps)
+    };
     let finished = recording.finished;
     // By a call, and before any exit: dropping each of its parts at an exit takes long to prove.
     drop(recording);
@@ -214,8 +198,8 @@ pub fn print_run(
 {
     match format {
         OutputKind::Lines => lines_of(alloc, policy, script),
-        OutputKind::Trace => trace_of(alloc, policy, script),
-        OutputKind::TraceWithSends => trace_with_sends_of(alloc, policy, script),
+        OutputKind::Trace => trace_of(alloc, policy, script, false),
+        OutputKind::TraceWithSends => trace_of(alloc, policy, script, true),
         OutputKind::Choices => choices_of(alloc, policy, script),
         OutputKind::Shrunk => shrunk_of(alloc, policy, script),
         OutputKind::State => state_of(alloc, policy, script),
