@@ -87,26 +87,26 @@ answers_more version a b c lines line text more h answer =
     )
 
 -- a book whose first line was read, and then these lines
-answered : (old mid new : Option (List ℕ)) (first : FirstLine) (made after : Timed) (text : List ℕ) (line : List ℕ) → HasRead old mid (line ∷ []) [] → SaysFirst line first
-    → made ≡ opening first.member.node first.member.nodes first.start → AnswersSome first.version mid new made text after → IsAnswered old new (codes "ok\n" ++ text)
-answered old mid new first made after text line read opened is some = (
+answered : (old mid new : Option (List ℕ)) (first : FirstLine) (after : Timed) (text : List ℕ) (line : List ℕ) → HasRead old mid (line ∷ []) [] → SaysFirst line first
+    → AnswersSome first.version mid new (opening first.member.node first.member.nodes first.start) text after → IsAnswered old new (codes "ok\n" ++ text)
+answered old mid new first after text line read opened some = (
   line ∷ some.0,
   some.1,
   read_on old mid new line some.0 some.1 read some.2,
-  (first.version, first.member.node, first.member.nodes, first.start, after, text, opened, refl, subst (λ (at : Timed). AnswersAll first.version at some.0 text after) is some.3),
+  (first.version, first.member.node, first.member.nodes, first.start, after, text, opened, refl, some.3),
 )
 
-pub served : (old mid new : Option (List ℕ)) (first : FirstLine) (made after : Timed) (ok text : List ℕ) (result : Result (Unit {0}) BookFault)
-    → Opens old mid ok (Ok first) → made ≡ opening first.member.node first.member.nodes first.start → Serves first.version mid new made text after result
+pub served : (old mid new : Option (List ℕ)) (first : FirstLine) (after : Timed) (ok text : List ℕ) (result : Result (Unit {0}) BookFault)
+    → Opens old mid ok (Ok first) → Serves first.version mid new (opening first.member.node first.member.nodes first.start) text after result
     → IsOwed old new (ok ++ text) result
-served old mid new first made after ok text (Ok done) opens made_is serves =
+served old mid new first after ok text (Ok done) opens serves =
     let is : ok ≡ codes "ok\n" = opens.3 in
-    rw is (answered old mid new first made after text opens.0 opens.1 opens.2 made_is serves.0, (λ none. cc), serves.1)
-served old mid new first made after ok text (Err Line) opens made_is serves = absurd serves
-served old mid new first made after ok text (Err Read) opens made_is serves =
-    let is : ok ≡ codes "ok\n" = opens.3 in rw is (answered old mid new first made after text opens.0 opens.1 opens.2 made_is serves)
-served old mid new first made after ok text (Err Write) opens made_is serves =
-    let is : ok ≡ codes "ok\n" = opens.3 in rw is (inl (answered old mid new first made after text opens.0 opens.1 opens.2 made_is serves))
+    rw is (answered old mid new first after text opens.0 opens.1 opens.2 serves.0, (λ none. cc), serves.1)
+served old mid new first after ok text (Err Line) opens serves = absurd serves
+served old mid new first after ok text (Err Read) opens serves =
+    let is : ok ≡ codes "ok\n" = opens.3 in rw is (answered old mid new first after text opens.0 opens.1 opens.2 serves)
+served old mid new first after ok text (Err Write) opens serves =
+    let is : ok ≡ codes "ok\n" = opens.3 in rw is (inl (answered old mid new first after text opens.0 opens.1 opens.2 serves))
 
 -- a book that did not open
 pub unopened : (old new : Option (List ℕ)) (text : List ℕ) (fault : BookFault) → Opens old new text (Err fault) → IsOwed old new text (Err fault)

@@ -12,12 +12,13 @@ ghost use Rattle.ra_book_text.specs.Serving.{Opens, Serves};
 ghost use Rattle.ra_book_text.specs.Answers.{refused_line};
 ghost use Rattle.ra_book_text.specs.declared.error.BookFault.{BookFault};
 ghost use Rattle.ra_book_text.specs.declared.answering.line_refusal.Refusal.{Refusal};
+ghost use Rattle.ra_book.specs.Timed.{Timed, opening};
 
 use crate::answering::answer_line::answer_line;
 use crate::answering::line_refusal::refused_line;
 use crate::answering::waiting_output::{Output, flush, put};
 use crate::next_line::{Input, next_line};
-use crate::{BookFault, BookVersion, FirstLine, Refusal, TimedNode};
+use crate::{BookFault, FirstLine, Refusal, TimedNode};
 use std::alloc::Global;
 use std::io::{BufRead, Write};
 
@@ -63,28 +64,29 @@ fn take_first<B: BufRead, W: Write>(
     }
 }
 
-/// Reads the lines after the first in this version, and puts out their answers.
+/// Reads the lines of a book after this first one, and puts out their answers.
 ///
 /// # Errors
 ///
 /// `Read`: the reader failed. `Write`: the writer failed.
 fn take_events<B: BufRead, W: Write>(
     alloc: Global,
-    version: BookVersion,
-    node: &mut TimedNode,
+    first: FirstLine,
     reader: &mut B,
     input: &mut Input,
     writer: &mut W,
     out: &mut Output,
 ) -> Result<(), BookFault>
     requires { input.old.failed ≡ false }
-    ensures serves { (text : List ℕ)
-        × Serves version (B.remaining reader.old) (B.remaining reader.new) node.old text node.new result
+    ensures serves { (text : List ℕ) × (after : Timed)
+        × Serves first.version (B.remaining reader.old) (B.remaining reader.new)
+        (opening first.member.node first.member.nodes first.start) text after result
         × Puts (W.contents writer.old) (W.contents writer.new) out.old out.new text }
     ensures reader { IsErrOf result BookFault.Read
         → HasEnded (B.remaining reader.old) (B.remaining reader.new) input.new.failed }
     ensures writer { IsErrOf result BookFault.Write → out.new.failed ≡ true }
 {
+    let mut node = TimedNode::new(alloc, first.member, first.start);
     for _line in 0..u64::MAX {
         // No `?`, as in `take_first`.
         let is_there = match next_line(reader, input, writer, out) {
@@ -94,7 +96,7 @@ fn take_events<B: BufRead, W: Write>(
         if !is_there {
             return Ok(());
         }
-        answer_line(alloc, version, node, &input.line, writer, out);
+        answer_line(alloc, first.version, &mut node, &input.line, writer, out);
     }
     Err(BookFault::Read)
 }
@@ -122,10 +124,7 @@ fn answer_from<B: BufRead, W: Write>(
 {
     // No `?`: what waits is written after a refusal, too.
     let taken = match take_first(reader, input, writer, out) {
-        Ok(first) => {
-            let mut node = TimedNode::new(alloc, first.member, first.start);
-            take_events(alloc, first.version, &mut node, reader, input, writer, out)
-        }
+        Ok(first) => take_events(alloc, first, reader, input, writer, out),
         Err(fault) => Err(fault),
     };
     if flush(writer, out) {

@@ -21,8 +21,8 @@ returns-then-flush-clause-answered g c =
           let s = w.take_events-taken.ensures.serves in
           rw (w.reader-is, w.writer-is, w.out-is, w.taken-is) (
             o.0 ++ s.0,
-            served _ _ _ w.in-Ok.first w.new-node.result _ o.0 s.0 w.take_events-taken.result (rw w.in-Ok.is at o.1) w.new-node.ensures s.1,
-            both _ _ _ _ _ _ _ _ o.2 s.2,
+            served _ _ _ w.in-Ok.first s.1 o.0 s.0 w.take_events-taken.result (rw w.in-Ok.is at o.1) s.2,
+            both _ _ _ _ _ _ _ _ o.2 s.3,
           )
       | in-Err w ↦ rw (w.reader-is, w.writer-is, w.out-is, w.taken-is) (o.0, unopened _ _ o.0 w.in-Err.fault (rw w.in-Err.is at o.1), o.2)
     ] in
@@ -40,8 +40,8 @@ returns-else-flush-clause-answered g c =
           let s = w.take_events-taken.ensures.serves in
           rw (w.reader-is, w.writer-is, w.out-is, w.taken-is) (
             o.0 ++ s.0,
-            served _ _ _ w.in-Ok.first w.new-node.result _ o.0 s.0 w.take_events-taken.result (rw w.in-Ok.is at o.1) w.new-node.ensures s.1,
-            both _ _ _ _ _ _ _ _ o.2 s.2,
+            served _ _ _ w.in-Ok.first s.1 o.0 s.0 w.take_events-taken.result (rw w.in-Ok.is at o.1) s.2,
+            both _ _ _ _ _ _ _ _ o.2 s.3,
           )
       | in-Err w ↦ rw (w.reader-is, w.writer-is, w.out-is, w.taken-is) (o.0, unopened _ _ o.0 w.in-Err.fault (rw w.in-Err.is at o.1), o.2)
     ] in

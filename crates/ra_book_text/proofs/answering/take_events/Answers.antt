@@ -8,7 +8,7 @@ use Rattle.ra_book_text.proofs.Served.{all_answered, ended_after, most_read, non
 use Rattle.ra_book_text.proofs.answering.take_events.Goals as goal
 
 pub loop-line-init : goal.loop-line-init
-loop-line-init g c = record { answered = ([], none_answered _ _ _, none _ _); unfailed = c.requires }
+loop-line-init g c = record { answered = ([], rw c.new-node.ensures (none_answered _ _ _), none _ _); unfailed = c.requires }
 
 pub loop-line-preserved : goal.loop-line-preserved
 loop-line-preserved g c =
@@ -25,7 +25,7 @@ pub returns-in-Err-clause-serves : goal.returns-in-Err-clause-serves
 returns-in-Err-clause-serves g c =
     let earlier = c.loop-line.invariant.answered in
     let put = renamed _ _ _ _ _ _ (append-nil earlier.0) (both _ _ _ _ _ _ _ _ earlier.2 c.next_line.ensures.puts) in
-    (earlier.0, stopped _ _ _ _ _ _ earlier.0 _ c.next_line.new.input.line c.in-Err.fault earlier.1 (rw c.in-Err.is at c.next_line.ensures.read), put)
+    (earlier.0, c.loop-line.node, stopped _ _ _ _ _ _ earlier.0 _ c.next_line.new.input.line c.in-Err.fault earlier.1 (rw c.in-Err.is at c.next_line.ensures.read), put)
 
 pub returns-in-Err-clause-reader : goal.returns-in-Err-clause-reader
 returns-in-Err-clause-reader g c =
@@ -37,12 +37,12 @@ returns-then-not-is_there-clause-serves g c =
     let earlier = c.loop-line.invariant.answered in
     let h = subst (λ (b : Bool). ReadsLine (g.B.Read.remaining c.loop-line.reader) (g.B.Read.remaining c.next_line.new.reader) c.next_line.new.input.line (Ok b)) c.if-not-is_there.true (rw c.in-Ok.is at c.next_line.ensures.read) in
     let put = renamed _ _ _ _ _ _ (append-nil earlier.0) (both _ _ _ _ _ _ _ _ earlier.2 c.next_line.ensures.puts) in
-    (earlier.0, all_answered _ _ _ _ _ _ earlier.0 _ earlier.1 h.0 h.1, put)
+    (earlier.0, c.loop-line.node, all_answered _ _ _ _ _ _ earlier.0 _ earlier.1 h.0 h.1, put)
 
 pub returns-clause-serves : goal.returns-clause-serves
 returns-clause-serves g c =
     let earlier = c.loop-line.invariant.answered in
-    (earlier.0, too_many_lines _ _ _ _ _ earlier.0 _ earlier.1, earlier.2)
+    (earlier.0, c.loop-line.node, too_many_lines _ _ _ _ _ earlier.0 _ earlier.1, earlier.2)
 
 pub returns-clause-reader : goal.returns-clause-reader
 returns-clause-reader g c = λ is. inr (most_read _ _ _ _ _ _ _ c.loop-line.invariant.answered.1 (omega arith))
