@@ -1,9 +1,11 @@
-//! Tests of `ra_trace`, `ra_draw`, `ra_script`, `ra_explain`, `ra_book_text` and `ra_notes` through their public calls,
-//! of what no command shows. The tables of `cases/` have what commands print.
+//! Tests of `ra_trace`, `ra_draw`, `ra_script`, `ra_explain`, `ra_book_text`, `ra_notes` and `ra_cli` through their
+//! public calls, of what no command shows. The tables of `cases/` have what commands print.
 #![tactic(auto)]
 
 #[cfg(test)]
 mod book_tests;
+#[cfg(test)]
+mod cli_calls;
 #[cfg(test)]
 mod growth_in_texts;
 #[cfg(test)]

@@ -16,7 +16,7 @@ const INNER_FAULTS: &[(PerformError, &str)] = &[
 fn refusals_print_as_their_words(rt: HostRuntime) {
     assert_prints!(&rt, INNER_FAULTS);
     assert_words!(&rt;
-        ScriptError: AlreadyHeld Memory;
+        ScriptError: AlreadyHeld Limit Memory;
         ChoicesError: Choice Memory;
         PerformError: Read Choice Memory Write);
 }

@@ -188,7 +188,11 @@ fn as_many_nodes_and_clients_as_there_may_be(rt: HostRuntime) {
 }
 
 /// Why a node was stopped is not printed.
-const FAULTS: &[(ClusterError, &str)] = &[(ClusterError::Fault(Stop::Gate), "Fault")];
+const FAULTS: &[(ClusterError, &str)] = &[
+    (ClusterError::Fault(Stop::Gate), "Fault"),
+    (ClusterError::Fault(Stop::Send), "Fault"),
+    (ClusterError::Fault(Stop::Memory), "Fault"),
+];
 
 #[test]
 fn cluster_faults_are_printed_as_their_words(rt: HostRuntime) {

@@ -1,10 +1,12 @@
-//! Calls that other programs may make.
+//! Calls of `ra_cli` that other programs may make. `ra` calls `do_alone` in place of `serve` and `answer`, so that
+//! `cases/` does not show them.
+use crate::text_asserting::assert_same;
 use ra_cli::{CommandFault, answer, refuse_arguments, serve};
 use std::alloc::Global;
 use std::process::Abort;
 use std::sync::Wait;
 use std::thread::Threads;
-use test_support::{Difference, row};
+use test_support::row;
 
 /// A REQUEST of node 1 for node 2, in version 1: exclusively, the name r, number 1, clock 1.
 const REQUEST: &str = "0101010201000000000000000100000000000000010172";
@@ -17,17 +19,8 @@ const WORDS: [&str; 6] = ["ra", "answer", "--node", "2", "--nodes", "3"];
 
 /// Asserts that these bytes are the bytes of the text.
 fn assert_text(rt: &impl Abort, label: &str, bytes: &[u8], text: &str) {
-    let (at, came) = (row(label), str::from_utf8(bytes).unwrap_or("no text"));
-    if came != text {
-        panic!(rt;
-            "{}",
-            Difference {
-                at,
-                expected: &text,
-                came: &came
-            }
-        );
-    }
+    let came = str::from_utf8(bytes).unwrap_or("no text");
+    assert_same(rt, row(label), &came, &text);
 }
 
 /// Returns those words, or `None` if there is no memory for them.
