@@ -19,3 +19,5 @@ mod Rooms
 mod MadeFrames
 mod ReadyNodes
 mod TurnsOfCalls
+mod ReplayedLinks
+mod SaidFrames

@@ -9,3 +9,4 @@ pub mod Played
 pub mod Full
 pub mod Making
 pub mod Ready
+pub mod Replaying

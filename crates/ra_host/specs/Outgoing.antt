@@ -87,3 +87,9 @@ abbrev pub frame_for : List Outgoing → ℕ → ℕ → Option Frame
 frame_for [] place number = None
 frame_for (o ∷ os) zero number = frame_at o number
 frame_for (o ∷ os) (suc place) number = frame_for os place number
+
+-- how many frames there are for the host at this place
+abbrev pub made_at : List Outgoing → ℕ → ℕ
+made_at [] place = 0
+made_at (o ∷ os) zero = o.made
+made_at (o ∷ os) (suc place) = made_at os place

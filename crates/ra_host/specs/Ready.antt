@@ -1,5 +1,5 @@
 -- A host that is ready: its node is there, with the frames that others have not acknowledged.
-use Rattle.std.specs.Prelude.{◌≡◌, ℕ, ◌-◌, true, Some, slice_get}
+use Rattle.std.specs.Prelude.{◌≡◌, ℕ, ◌-◌, true, Some, slice_get, Option, None}
 use Rattle.ra_node.specs.declared.outcome.Outcome.{Outcome}
 use Rattle.ra_link.specs.declared.link.Link.{Link}
 use Rattle.ra_book.specs.declared.book.event.BookKind.{BookKind}
@@ -34,3 +34,9 @@ pub record Happened (old : Host) (kind : BookKind) (outcome : Outcome) (links : 
   pub frames : happens.frames ≡ frames_at (next_clock old.book kind) outcome.sends.items
   pub marks : happens.marks ≡ outcome.marks.items
   pub are : AreOf links p new
+
+-- both, if each is there
+abbrev pub both : {A B : Type 0} → Option A → Option B → Option (A × B)
+both None b = None
+both (Some x) None = None
+both (Some x) (Some y) = Some (x, y)

@@ -1,18 +1,22 @@
 //! A host that is ready.
-ghost use Rattle.std.specs.Prelude.{◌≡◌, ◌↔◌, ◌⊎◌, false, length, IfOk, IfErr, IsTrue, IsOk, IsErr, IsErrOf};
+ghost use Rattle.std.specs.Prelude.{◌≡◌, ◌↔◌, ◌⊎◌, ◌-◌, ℕ, Some, false, length, slice_get, IfSome, IfOk, IfErr, IsTrue, IsOk, IsErr, IsErrOf};
 ghost use Rattle.ra_automaton.specs.State.{IsOtherNode};
 ghost use Rattle.ra_frame.specs.Fits.{Fits};
 ghost use Rattle.ra_link.specs.Link as rule;
 ghost use Rattle.ra_book.specs.declared.book.event.BookKind.TheVariants as kinds;
 ghost use Rattle.ra_host.specs.Host as machine;
-ghost use Rattle.ra_host.specs.Host.{IsOther, IsOwn, connects, hears_ack, hears_hello, hears_welcome, is_taken, linked, syncs_book};
-ghost use Rattle.ra_host.specs.Played.{RefusesEvent};
-ghost use Rattle.ra_host.specs.Ready.{AreOf, Happened};
+ghost use Rattle.ra_host.specs.Host.{IsOther, IsOwn, connects, hears_ack, hears_hello, hears_welcome, is_taken, linked, Replays, ends, replays_book, syncs_book};
+ghost use Rattle.ra_host.specs.Played.{IsPlayedOf, RefusesEvent};
+ghost use Rattle.ra_book.specs.Pairs.{sent_to};
+ghost use Rattle.ra_host.specs.Outgoing.{frame_for};
+ghost use Rattle.ra_host.specs.Ready.{AreOf, Happened, both};
+ghost use Rattle.ra_host.specs.Replaying.{DropsFew, MayReplay};
+ghost use Rattle.ra_host.specs.Running.{AreLinksOf};
 
 use crate::{CountError, EventError, Links, NoHost, Played};
 use ra_book::BookKind;
 use ra_frame::Frame;
-use ra_link::{Heard, Message};
+use ra_link::{Heard, Message, OldBook};
 use ra_node::Outcome;
 use ra_stamp::NodeId;
 use std::alloc::Global;
@@ -29,11 +33,58 @@ pub struct Host {
 }
 
 impl Host {
+    /// Makes a ready host of its links and of the node that had the events of its book, once `Links::may_replay` says
+    /// so: the replay is over. Say the frames that others lack then. The cost is linear in the number of hosts, and of
+    /// the frames that were acknowledged since the replay began.
+    ///
+    /// # Errors
+    ///
+    /// `OldBook`: a host has acknowledged more frames than are in the book. The host ends then.
+    pub fn ready(links: Links, played: Played) -> Result<Host, OldBook>
+        ensures ok { IfOk result (λ host. (h : machine.Host) → AreLinksOf links h → IsPlayedOf played h.book
+            → MayReplay h → DropsFew played h
+            → Replays h (replays_book h) × AreOf host.links host.played (replays_book h)) }
+        ensures old { IsErr result → (h : machine.Host) → AreLinksOf links h → IsPlayedOf played h.book
+            → MayReplay h → (j : ℕ) × Replays h (ends h j) }
+    {
+        let mut links = links;
+        let mut played = played;
+        match links.replay(&played) {
+            Ok(()) => {}
+            Err(why) => return Err(why),
+        }
+        played.drop_acknowledged(&links);
+        Ok(Host { links, played })
+    }
+
     /// Returns its links, which say what may be said to others. It does not allocate.
     pub fn links(&self) -> &Links
         ensures { result.now ≡ self.now.links }
     {
         &self.links
+    }
+
+    /// Returns the frame for a host with this number, counted from 1, and its message, if it is on the disk and not
+    /// acknowledged. Say it then: a new one after the sync, and from time to time the first ones that are not
+    /// acknowledged, as many as `Link::said_again` says. It does not allocate.
+    pub fn frame(&self, other: NodeId, number: u64) -> Option<(Message, Frame)>
+        ensures value { (h : machine.Host) → AreOf self.now.links self.now.played h → IsOther h other
+            → result ≡ both (rule.frame_of (h.links other) number)
+            (frame_for self.now.played.outgoing (other - 1) number) }
+        ensures said { IfSome result (λ said. (h : machine.Host) → AreOf self.now.links self.now.played h
+            → (rule.frame_of (h.links other) number ≡ Some said.0)
+            × (slice_get (sent_to other h.book) (number - 1) ≡ Some said.1)) }
+    {
+        let Some(link) = self.links.get(other) else {
+            return None;
+        };
+        let Some(message) = link.frame(number) else {
+            return None;
+        };
+        let Some(frame) = self.played.frame(other, number) else {
+            return None;
+        };
+        Some((message, frame))
     }
 
     /// There is a new connection to a host, as [`Links::connect`] says.

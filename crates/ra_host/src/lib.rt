@@ -2,8 +2,7 @@
 //!
 //! The machine of n hosts (specs/Host, specs/Hosts) and its laws are here, and what a host keeps while it runs, without
 //! input and output. When it comes back, it counts the frames in its book ([`TakenCounts`]), and has its [`Links`]
-//! alone. Then its node has the events of the book again ([`Played`]). A host that is ready is a [`Host`]. As yet what
-//! makes one of the links and the node, and what takes a frame, is missing.
+//! alone. Then its node has the events of the book again ([`Played`]). A host that is ready is a [`Host`].
 #![tactic(auto)]
 
 mod error;

@@ -1,17 +1,21 @@
 //! The links of a host.
-ghost use Rattle.std.specs.Prelude.{◌≡◌, ◌↔◌, ◌-◌, ◌<◌, ◌==◌, ◌&&◌, ◌≤◌, ℕ, All, true, length, map, slice_get, slice_set, MatchOption, IfOk, IsTrue, IsOk, IsErr, IsErrOf};
+ghost use Rattle.std.specs.Prelude.{◌≡◌, ◌↔◌, ◌-◌, ◌<◌, ◌==◌, ◌&&◌, ◌≤◌, ℕ, All, true, false, slice_index_or, length, map, slice_get, slice_set, MatchOption, IfOk, IsTrue, IsOk, IsErr, IsErrOf};
 ghost use Rattle.ra_stamp.specs.Message.{from_of, to_of};
 ghost use Rattle.ra_book.specs.Book.{BookState};
 ghost use Rattle.ra_book.specs.History.{frames_at};
 ghost use Rattle.ra_automaton.specs.State.{IsOtherNode};
 ghost use Rattle.ra_link.specs.Link as rule;
-ghost use Rattle.ra_host.specs.Host.{Host, IsOther, begins, connects, hears_hello, hears_welcome, hears_ack, hears_old, is_taken, linked, makes_frames, syncs_book};
+ghost use Rattle.ra_host.specs.Host.{Host, IsOther, begins, connects, hears_hello, hears_welcome, hears_ack, hears_old, is_short, is_taken, linked, makes_frames, replays_book, syncs_book};
+ghost use Rattle.ra_link.specs.declared.link.Link.{Link};
+ghost use Rattle.ra_host.specs.Outgoing.{made_at};
+ghost use Rattle.ra_host.specs.Played.{IsPlayedOf};
+ghost use Rattle.ra_host.specs.Replaying.{MayReplay, acknowledged_at, replayed};
 ghost use Rattle.ra_host.specs.Making.{MayMake, makes_each};
 ghost use Rattle.ra_host.specs.Running.{AreLinksOf, HasTaken};
 
-use crate::{CountError, NoHost};
+use crate::{CountError, NoHost, Played};
 use ra_frame::Frame;
-use ra_link::{Heard, Link, Message};
+use ra_link::{Heard, Link, Message, OldBook};
 use ra_stamp::{Memory, Message as NodeMessage, NodeId};
 use std::alloc::Global;
 
@@ -242,7 +246,7 @@ impl Links {
 
     /// Counts the frame that a host said, if it is the next one. The node has received it then. If the cluster has no
     /// such other host it does nothing.
-    pub fn take_frame(&mut self, other: NodeId, start: u128, number: u64)
+    pub(crate) fn take_frame(&mut self, other: NodeId, start: u128, number: u64)
         ensures { (h : Host) → AreLinksOf self.old h → IsOther h other
             → AreLinksOf self.new (linked h other (rule.hears_frame (h.links other) start number)) }
     {
@@ -254,7 +258,7 @@ impl Links {
     }
 
     /// Counts the frames that the node sent, each for its receiver. The cost is linear in their number.
-    pub fn make_frames(&mut self, sends: &[NodeMessage])
+    pub(crate) fn make_frames(&mut self, sends: &[NodeMessage])
         ensures me { self.new.me ≡ self.old.me }
         ensures links { self.new.links.items ≡ makes_each self.old.links.items sends.now }
         ensures host { (h : Host) (clock : ℕ) (book : BookState) → AreLinksOf self.old h
@@ -268,7 +272,7 @@ impl Links {
 
     /// The book is synced: all frames that were made and taken are on the disk. Say the new frames and the acks then.
     /// The cost is linear in the number of hosts.
-    pub fn sync(&mut self)
+    pub(crate) fn sync(&mut self)
         ensures { (h : Host) → AreLinksOf self.old h → AreLinksOf self.new (syncs_book h) }
     {
         sync_all(self.links.as_mut_slice());
@@ -287,6 +291,40 @@ impl Links {
             }
         }
         true
+    }
+
+    /// Returns how many frames the host at this place, counted from 0, has acknowledged, or 0 if there is no such
+    /// host. It does not allocate.
+    pub(crate) fn acknowledged_at(&self, place: usize) -> u64
+        ensures { result ≡ acknowledged_at self.now.links.items place }
+    {
+        if place >= self.links.len() {
+            return 0;
+        }
+        self.links[place].acknowledged()
+    }
+
+    /// The book is replayed: its node had its events. The host is ready then. Call it once `may_replay` says so. The
+    /// cost is linear in the number of hosts.
+    ///
+    /// # Errors
+    ///
+    /// `OldBook`: a host has acknowledged more frames than are in the book. Nothing has changed, and the host ends.
+    pub(crate) fn replay(&mut self, played: &Played) -> Result<(), OldBook>
+        ensures ok { IsOk result → (h : Host) → AreLinksOf self.old h → IsPlayedOf played.now h.book → MayReplay h
+            → AreLinksOf self.new (replays_book h) × ((j : ℕ) → IsOther h j → is_short h j ≡ false) }
+        ensures old { IsErr result → (h : Host) → AreLinksOf self.old h → IsPlayedOf played.now h.book
+            → (j : ℕ) × IsOther h j × (is_short h j ≡ true) }
+        ensures err { IsErr result → self.new ≡ self.old }
+    {
+        for place in 0..self.links.len() {
+            let link = self.links[place];
+            if place != self.me.place() && accuses(link, played.made_at(place)) {
+                return Err(OldBook);
+            }
+        }
+        replay_all(&mut self.links, played);
+        Ok(())
     }
 }
 
@@ -324,5 +362,26 @@ fn sync_all(links: &mut [Link])
 {
     for link in links.iter_mut() {
         link.synced();
+    }
+}
+
+/// Returns whether the link shows at the replay that the book is old, which has this many frames for the other host.
+fn accuses(link: Link, count: u64) -> bool
+    ensures { result ≡ rule.replay_accuses link count }
+{
+    may_replay(link) && count < link.acknowledged()
+}
+
+/// The book is replayed for each link.
+fn replay_all(links: &mut Vec<Link>, played: &Played)
+    ensures each { (k : ℕ) (d : Link) → k < length links.old.items
+        → slice_index_or links.new.items k d
+        ≡ replayed (slice_index_or links.old.items k d) (made_at played.now.outgoing k) }
+    ensures len { length links.new.items ≡ length links.old.items }
+{
+    for place in 0..links.len() {
+        let mut link = links[place];
+        let _ = link.replayed(played.made_at(place));
+        links[place] = link;
     }
 }

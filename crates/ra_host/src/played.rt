@@ -1,13 +1,16 @@
 //! A node with the frames that it sent.
-ghost use Rattle.std.specs.Prelude.{◌≡◌, ◌-◌, ◌≤◌, length, map, MatchResult, IfOk, OnOk};
+ghost use Rattle.std.specs.Prelude.{◌≡◌, ◌-◌, ◌<◌, ◌≤◌, ℕ, Some, length, slice_get, slice_index_or, map, MatchResult, IfOk, OnOk};
 ghost use Rattle.ra_book.specs.Book.{BookState, opening_book};
 ghost use Rattle.ra_book.specs.History.{frames_at};
-ghost use Rattle.ra_host.specs.Outgoing.{HaveRoom, HaveSpace, drops_at, none_of, outgoing_of, posts};
+ghost use Rattle.ra_host.specs.Outgoing.{HaveRoom, HaveSpace, Outgoing, drops, drops_at, frame_for, made_at, none_of, outgoing_of, posts};
+ghost use Rattle.ra_host.specs.Replaying.{acknowledged_at};
+ghost use Rattle.ra_host.specs.declared.outbox.Outbox.{Outbox};
 ghost use Rattle.ra_host.specs.Full as full;
 
-use crate::EventError;
 use crate::outbox::Outbox;
+use crate::{EventError, Links};
 use ra_book::{BookError, BookKind, TimedNode};
+use ra_frame::Frame;
 use ra_node::Outcome;
 use ra_stamp::{Member, Memory, Message, NodeId};
 use std::alloc::Global;
@@ -99,11 +102,37 @@ impl Played {
 
     /// Drops the first frames for a host, so that this many are not kept: it has acknowledged them. The cost is
     /// amortized constant for each frame that was sent.
-    pub fn drop_first(&mut self, other: NodeId, count: u64)
+    pub(crate) fn drop_first(&mut self, other: NodeId, count: u64)
         ensures { self.new
             ≡ record self.old { outgoing = drops_at self.old.outgoing (other - 1) count } }
     {
         drop_first(&mut self.outboxes, other.place(), count);
+    }
+
+    /// Returns the frame for a host with this number, counted from 1, or `None` if it is not kept. It does not
+    /// allocate.
+    pub(crate) fn frame(&self, other: NodeId, number: u64) -> Option<Frame>
+        ensures { result ≡ frame_for self.now.outgoing (other - 1) number }
+    {
+        frame_of(&self.outboxes, other.place(), number)
+    }
+
+    /// Returns how many frames there are for the host at this place, counted from 0, or 0 if there is no such host. It
+    /// does not allocate.
+    pub(crate) fn made_at(&self, place: usize) -> u64
+        ensures { result ≡ made_at self.now.outgoing place }
+    {
+        made_of(&self.outboxes, place)
+    }
+
+    /// Drops the first frames for each host, which the host has acknowledged by its link. The cost is linear in the
+    /// number of hosts, and of the frames that are dropped.
+    pub(crate) fn drop_acknowledged(&mut self, links: &Links)
+        ensures timed { self.new.timed ≡ self.old.timed }
+        ensures outgoing { (k : ℕ) (o : Outgoing) → slice_get self.old.outgoing k ≡ Some o
+            → slice_get self.new.outgoing k ≡ Some (drops o (acknowledged_at links.now.links.items k)) }
+    {
+        drop_each(&mut self.outboxes, links);
     }
 }
 
@@ -157,4 +186,38 @@ fn drop_first(outboxes: &mut Vec<Outbox>, place: usize, count: u64)
         return;
     }
     outboxes[place].drop_first(count);
+}
+
+/// Returns how many frames there are for the host at this place, or 0 if there is no such host.
+fn made_of(outboxes: &[Outbox], place: usize) -> u64
+    ensures { result ≡ made_at (map outgoing_of outboxes.now) place }
+{
+    if place >= outboxes.len() {
+        return 0;
+    }
+    outboxes[place].made()
+}
+
+/// Drops the first frames for each host that it has acknowledged.
+fn drop_each(outboxes: &mut Vec<Outbox>, links: &Links)
+    ensures each { (k : ℕ) (d : Outbox) → k < length outboxes.old.items
+        → outgoing_of (slice_index_or outboxes.new.items k d)
+        ≡ drops (outgoing_of (slice_index_or outboxes.old.items k d))
+        (acknowledged_at links.now.links.items k) }
+    ensures len { length outboxes.new.items ≡ length outboxes.old.items }
+{
+    for place in 0..outboxes.len() {
+        let count = links.acknowledged_at(place);
+        outboxes[place].drop_first(count);
+    }
+}
+
+/// Returns the frame with this number for the host at this place, or `None` if it is not kept.
+fn frame_of(outboxes: &[Outbox], place: usize, number: u64) -> Option<Frame>
+    ensures { result ≡ frame_for (map outgoing_of outboxes.now) place number }
+{
+    if place >= outboxes.len() {
+        return None;
+    }
+    outboxes[place].get(number)
 }
