@@ -36,9 +36,9 @@ use Rattle.ra_host.proofs.Views.{sent_more}
 -- ---- The links change
 
 -- a link changes that is as ready, has made as many frames, and has as many acknowledged
-pub stays : (p : PlayedState) (h : Host) (j : ℕ) (l : Link) → IsReadyWith p h → l.ready ≡ (h.links j).ready → l.made ≡ (h.links j).made → l.acknowledged ≡ (h.links j).acknowledged
+pub stays : (p : PlayedState) (h : Host) (j : ℕ) (l : Link) → IsReadyWith p h → l.ready ≡ (h.links j).ready → l.made ≡ (h.links j).made → l.acknowledged ≡ (h.links j).acknowledged → l.sent ≡ (h.links j).sent
     → IsReadyWith p (linked h j l)
-stays p h j l is ready made acknowledged =
+stays p h j l is ready made acknowledged sent =
     record {
       book = is.book;
       each = λ k o other at.
@@ -51,6 +51,7 @@ stays p h j l is ready made acknowledged =
                   ready = ready ∙ ap (λ (x : Link). x.ready) link ∙ goes.ready;
                   made = made ∙ ap (λ (x : Link). x.made) link ∙ goes.made;
                   acknowledged = acknowledged ∙ ap (λ (x : Link). x.acknowledged) link ∙ goes.acknowledged;
+                  sent = (let a = ap (λ (x : Link). x.sent) link in let b = ap (λ (x : Link). x.made) link in let low = goes.sent in omega (arith, sent, made, a, b, low));
                 })
             | inr differs ↦
                 let to : cond (k == j) l (h.links k) ≡ h.links k = ap (λ (b : Bool). cond b l (h.links k)) (ne_eqb k j differs) in
@@ -144,6 +145,7 @@ happened links new_links old new h kind outcome are is plays goes same_me items 
                 ready = goes_with.ready;
                 made = omega (arith, made, was_made, link_made);
                 acknowledged = goes_with.acknowledged ∙ sym (same_Some o.dropped before.0.dropped dropped);
+                sent = (let low = goes_with.sent in omega (arith, low));
               };
         };
       };
@@ -151,31 +153,31 @@ happened links new_links old new h kind outcome are is plays goes same_me items 
 
 -- ---- The links of a ready host
 
-asks_same : (l : Link) → ((rule.asks l).ready ≡ l.ready) × ((rule.asks l).made ≡ l.made) × ((rule.asks l).acknowledged ≡ l.acknowledged)
+asks_same : (l : Link) → ((rule.asks l).ready ≡ l.ready) × ((rule.asks l).made ≡ l.made) × ((rule.asks l).acknowledged ≡ l.acknowledged) × ((rule.asks l).sent ≡ l.sent)
 asks_same l = asked (nat_lt l.asked rule.greatest)
   where
-    asked : (b : Bool) → let m = cond b (record l { asked = l.asked + 1; pending = Some l.acknowledged; is_old = false }) l in (m.ready ≡ l.ready) × (m.made ≡ l.made) × (m.acknowledged ≡ l.acknowledged)
-    asked true = (refl, refl, refl)
-    asked false = (refl, refl, refl)
+    asked : (b : Bool) → let m = cond b (record l { asked = l.asked + 1; pending = Some l.acknowledged; is_old = false }) l in (m.ready ≡ l.ready) × (m.made ≡ l.made) × (m.acknowledged ≡ l.acknowledged) × (m.sent ≡ l.sent)
+    asked true = (refl, refl, refl, refl)
+    asked false = (refl, refl, refl, refl)
 
 pub connected : (p : PlayedState) (h : Host) (j : ℕ) → IsReadyWith p h → IsReadyWith p (connects h j)
-connected p h j is = let same = asks_same (h.links j) in stays p h j (rule.asks (h.links j)) is same.0 same.1 same.2
+connected p h j is = let same = asks_same (h.links j) in stays p h j (rule.asks (h.links j)) is same.0 same.1 same.2 same.3
 
-hello_same : (l : Link) (start : ℕ) → ((rule.hears_hello l start).ready ≡ l.ready) × ((rule.hears_hello l start).made ≡ l.made) × ((rule.hears_hello l start).acknowledged ≡ l.acknowledged)
+hello_same : (l : Link) (start : ℕ) → ((rule.hears_hello l start).ready ≡ l.ready) × ((rule.hears_hello l start).made ≡ l.made) × ((rule.hears_hello l start).acknowledged ≡ l.acknowledged) × ((rule.hears_hello l start).sent ≡ l.sent)
 hello_same l start = heard (rule.is_nonce l.heard start)
   where
-    heard : (b : Bool) → let m = cond b l (rule.asks (record l { heard = Some start })) in (m.ready ≡ l.ready) × (m.made ≡ l.made) × (m.acknowledged ≡ l.acknowledged)
-    heard true = (refl, refl, refl)
+    heard : (b : Bool) → let m = cond b l (rule.asks (record l { heard = Some start })) in (m.ready ≡ l.ready) × (m.made ≡ l.made) × (m.acknowledged ≡ l.acknowledged) × (m.sent ≡ l.sent)
+    heard true = (refl, refl, refl, refl)
     heard false = asks_same (record l { heard = Some start })
 
 pub hello_heard : (p : PlayedState) (h : Host) (j start : ℕ) → IsReadyWith p h → IsReadyWith p (hears_hello h j start)
-hello_heard p h j start is = let same = hello_same (h.links j) start in stays p h j (rule.hears_hello (h.links j) start) is same.0 same.1 same.2
+hello_heard p h j start is = let same = hello_same (h.links j) start in stays p h j (rule.hears_hello (h.links j) start) is same.0 same.1 same.2 same.3
 
 pub book_synced : (p : PlayedState) (h : Host) → IsReadyWith p h → IsReadyWith p (syncs_book h)
 book_synced p h is =
     record {
       book = is.book;
-      each = λ j o other at. let goes = is.each j o other at in record { ready = goes.ready; made = goes.made; acknowledged = goes.acknowledged };
+      each = λ j o other at. let goes = is.each j o other at in record { ready = goes.ready; made = goes.made; acknowledged = goes.acknowledged; sent = omega arith };
     }
 
 -- an event that no frame brings has no frame that has to fit
@@ -201,9 +203,9 @@ dropped_beside (p ∷ os) (suc place) zero count differs = refl
 dropped_beside (p ∷ os) (suc place) (suc k) count differs = dropped_beside os place k count (λ same. differs (ap suc same))
 
 -- the link to a host knows of more frames that it has acknowledged, and these are not kept any more
-pub acknowledged : (p : PlayedState) (h : Host) (j : ℕ) (l : Link) → IsOther h j → IsReadyWith p h → l.ready ≡ (h.links j).ready → l.made ≡ (h.links j).made → (h.links j).acknowledged ≤ l.acknowledged
+pub acknowledged : (p : PlayedState) (h : Host) (j : ℕ) (l : Link) → IsOther h j → IsReadyWith p h → l.ready ≡ (h.links j).ready → l.made ≡ (h.links j).made → (h.links j).acknowledged ≤ l.acknowledged → l.sent ≡ (h.links j).sent
     → IsReadyWith (record p { outgoing = drops_at p.outgoing (j - 1) l.acknowledged }) (linked h j l)
-acknowledged p h j l is_other is ready made more =
+acknowledged p h j l is_other is ready made more sent =
     record {
       book = record {
         leads = is.book.leads;
@@ -239,6 +241,7 @@ acknowledged p h j l is_other is ready made more =
           ready = ready ∙ was.ready;
           made = made ∙ was.made;
           acknowledged = omega (arith, more, low);
+          sent = (let few = was.sent in omega (arith, sent, made, few));
         }))
     goes k o other at (inr differs) =
         let beside = dropped_beside p.outgoing (j - 1) (k - 1) l.acknowledged (λ same. differs (let a = other.first in let b = is_other.first in omega (arith, same, a, b))) in
@@ -246,28 +249,28 @@ acknowledged p h j l is_other is ready made more =
         let to : (linked h j l).links k ≡ h.links k = ap (λ (b : Bool). cond b l (h.links k)) (ne_eqb k j differs) in
         subst (λ (x : Link). GoWith x o) (sym to) was
 
-ack_same : (l : Link) (start other kept : ℕ) → let m = rule.hears_ack l start other kept in (m.ready ≡ l.ready) × (m.made ≡ l.made) × (l.acknowledged ≤ m.acknowledged)
+ack_same : (l : Link) (start other kept : ℕ) → let m = rule.hears_ack l start other kept in (m.ready ≡ l.ready) × (m.made ≡ l.made) × (l.acknowledged ≤ m.acknowledged) × (m.sent ≡ l.sent)
 ack_same l start other kept = heard (rule.is_ack l start other)
   where
-    heard : (b : Bool) → let m = cond b (record l { acknowledged = max l.acknowledged kept; confirmed = true }) l in (m.ready ≡ l.ready) × (m.made ≡ l.made) × (l.acknowledged ≤ m.acknowledged)
-    heard true = (refl, refl, omega arith)
-    heard false = (refl, refl, omega arith)
+    heard : (b : Bool) → let m = cond b (record l { acknowledged = max l.acknowledged kept; confirmed = true }) l in (m.ready ≡ l.ready) × (m.made ≡ l.made) × (l.acknowledged ≤ m.acknowledged) × (m.sent ≡ l.sent)
+    heard true = (refl, refl, omega arith, refl)
+    heard false = (refl, refl, omega arith, refl)
 
-welcome_same : (l : Link) (asker question start kept : ℕ) → let m = rule.hears_welcome l asker question start kept in (m.ready ≡ l.ready) × (m.made ≡ l.made) × (l.acknowledged ≤ m.acknowledged)
+welcome_same : (l : Link) (asker question start kept : ℕ) → let m = rule.hears_welcome l asker question start kept in (m.ready ≡ l.ready) × (m.made ≡ l.made) × (l.acknowledged ≤ m.acknowledged) × (m.sent ≡ l.sent)
 welcome_same l asker question start kept = heard (rule.is_answer l asker question) (rule.shows_old l start kept)
   where
-    heard : (answers old : Bool) → let m = cond answers (cond old (record l { is_old = true }) (rule.adopts l start kept)) l in (m.ready ≡ l.ready) × (m.made ≡ l.made) × (l.acknowledged ≤ m.acknowledged)
-    heard true true = (refl, refl, omega arith)
-    heard true false = (refl, refl, omega arith)
-    heard false old = (refl, refl, omega arith)
+    heard : (answers old : Bool) → let m = cond answers (cond old (record l { is_old = true }) (rule.adopts l start kept)) l in (m.ready ≡ l.ready) × (m.made ≡ l.made) × (l.acknowledged ≤ m.acknowledged) × (m.sent ≡ l.sent)
+    heard true true = (refl, refl, omega arith, refl)
+    heard true false = (refl, refl, omega arith, refl)
+    heard false old = (refl, refl, omega arith, refl)
 
 -- a count is heard that does not accuse the host
 heard_count : (p : PlayedState) (h : Host) (j : ℕ) (accuses : Bool) (l : Link) (count : ℕ) → IsOther h j → IsReadyWith p h → accuses ≡ false
-    → (l.ready ≡ (h.links j).ready) × (l.made ≡ (h.links j).made) × ((h.links j).acknowledged ≤ l.acknowledged) → count ≡ l.acknowledged
+    → (l.ready ≡ (h.links j).ready) × (l.made ≡ (h.links j).made) × ((h.links j).acknowledged ≤ l.acknowledged) × (l.sent ≡ (h.links j).sent) → count ≡ l.acknowledged
     → IsReadyWith (record p { outgoing = drops_at p.outgoing (j - 1) count }) (cond accuses (ends h j) (linked h j l))
 heard_count p h j accuses l count is_other is passes same counts =
     subst (λ (g : Host). IsReadyWith (record p { outgoing = drops_at p.outgoing (j - 1) count }) g) (sym (ap (λ (b : Bool). cond b (ends h j) (linked h j l)) passes))
-    (subst (λ (n : ℕ). IsReadyWith (record p { outgoing = drops_at p.outgoing (j - 1) n }) (linked h j l)) (sym counts) (acknowledged p h j l is_other is same.0 same.1 same.2))
+    (subst (λ (n : ℕ). IsReadyWith (record p { outgoing = drops_at p.outgoing (j - 1) n }) (linked h j l)) (sym counts) (acknowledged p h j l is_other is same.0 same.1 same.2 same.3))
 
 pub ack_heard : (p : PlayedState) (h : Host) (j start other kept count : ℕ) → IsOther h j → IsReadyWith p h → rule.ack_accuses (h.links j) start other kept ≡ false
     → count ≡ (rule.hears_ack (h.links j) start other kept).acknowledged → IsReadyWith (record p { outgoing = drops_at p.outgoing (j - 1) count }) (hears_ack h j start other kept)
@@ -287,14 +290,14 @@ not_refused false x e refused = refl
 
 -- ---- A frame is taken
 
-frame_same : (l : Link) (start number : ℕ) → let m = rule.hears_frame l start number in (m.ready ≡ l.ready) × (m.made ≡ l.made) × (m.acknowledged ≡ l.acknowledged)
+frame_same : (l : Link) (start number : ℕ) → let m = rule.hears_frame l start number in (m.ready ≡ l.ready) × (m.made ≡ l.made) × (m.acknowledged ≡ l.acknowledged) × (m.sent ≡ l.sent)
 frame_same l start number = heard (rule.is_next l start number)
   where
-    heard : (b : Bool) → let m = cond b (record l { taken = l.taken + 1 }) l in (m.ready ≡ l.ready) × (m.made ≡ l.made) × (m.acknowledged ≡ l.acknowledged)
-    heard true = (refl, refl, refl)
-    heard false = (refl, refl, refl)
+    heard : (b : Bool) → let m = cond b (record l { taken = l.taken + 1 }) l in (m.ready ≡ l.ready) × (m.made ≡ l.made) × (m.acknowledged ≡ l.acknowledged) × (m.sent ≡ l.sent)
+    heard true = (refl, refl, refl, refl)
+    heard false = (refl, refl, refl, refl)
 
 pub frame_taken : (p : PlayedState) (h : Host) (j start number : ℕ) → IsReadyWith p h → IsReadyWith p (linked h j (rule.hears_frame (h.links j) start number))
 frame_taken p h j start number is =
     let same = frame_same (h.links j) start number in
-    stays p h j (rule.hears_frame (h.links j) start number) is same.0 same.1 same.2
+    stays p h j (rule.hears_frame (h.links j) start number) is same.0 same.1 same.2 same.3

@@ -156,7 +156,7 @@ ready_is links new p q h are held is few timed drop_each =
             let low = few j kept.0 other kept.1 in
             let acked = known j other in
             subst (λ (x : Outgoing). GoWith (rule.replays (h.links j) (length (sent_to j h.book))) x) now
-            (record { ready = refl; made = sym kept.2.made; acknowledged = omega (arith, low, acked) });
+            (record { ready = refl; made = sym kept.2.made; acknowledged = omega (arith, low, acked); sent = omega arith });
       };
     }
 

@@ -1,11 +1,18 @@
 -- The frames that are kept, among all of the book.
-use Rattle.std.proofs.Common.{◌≡◌, ◌⊎◌, inl, inr, ℕ, zero, suc, ◌+◌, ◌-◌, ◌<◌, ◌≤◌, Bool, cond, Some, None, List, [], ◌∷◌, length, map, drop, get_or, refl, sym, ap, ◌∙◌, arith}
-use Rattle.std.specs.Prelude.{slice_get}
-use Rattle.std.proofs.lemmas.Bool.{cases_lt, lt-ltb}
-use Rattle.std.proofs.lemmas.Option.{none-some, same_Some}
+use Rattle.std.proofs.Common.{◌≡◌, ◌⊎◌, inl, inr, ℕ, zero, suc, ◌+◌, ◌-◌, ◌<◌, ◌≤◌, Bool, true, false, ◌&&◌, cond, Some, None, List, [], ◌∷◌, length, map, drop, get_or, refl, sym, ap, ◌∙◌, arith}
+use Rattle.std.specs.Prelude.{nat_le, nat_lt, slice_get}
+use Rattle.std.proofs.lemmas.Bool.{cases_lt, leb-true, lt-ltb, ltb-true}
+use Rattle.std.proofs.lemmas.Option.{none-some, same_Some, slice_get_cases}
 use Rattle.ra_frame.specs.declared.frame.Frame.{Frame}
+use Rattle.ra_link.specs.Link as rule
+use Rattle.ra_book.specs.Pairs.{sent_to}
+use Rattle.ra_host.specs.declared.links.Links.{Links}
 use Rattle.ra_host.specs.declared.outbox.Outbox.{Outbox}
+use Rattle.ra_host.specs.Host.{Host, IsOther}
 use Rattle.ra_host.specs.Outgoing.{KeepsOf, Outgoing, frame_at, frame_for, outgoing_of}
+use Rattle.ra_host.specs.Played.{PlayedState}
+use Rattle.ra_host.specs.Ready.{AreOf}
+use Rattle.ra_host.proofs.LinksHeld.{never_both}
 use Rattle.ra_host.proofs.OutgoingKept.{not_below}
 
 pub frame_of_box : (xs : List Outbox) (place : ℕ) (d : Outbox) (number : ℕ) → place < length xs → frame_at (outgoing_of (get_or xs place d)) number ≡ frame_for (map outgoing_of xs) place number
@@ -44,3 +51,43 @@ frame_kept o all number f keeps is = by (cases_lt o.dropped number)
 pub said_is : (os : List Outgoing) (k : ℕ) (o : Outgoing) (all : List Frame) (number : ℕ) (f : Frame) → slice_get os k ≡ Some o → KeepsOf o all → frame_for os k number ≡ Some f
     → slice_get all (number - 1) ≡ Some f
 said_is os k o all number f at keeps is = frame_kept o all number f keeps (sym (frame_there os k o number at) ∙ is)
+
+and_left : (a b : Bool) → (a && b) ≡ true → a ≡ true
+and_left true b is = refl
+and_left false b is = is
+
+and_right : (a b : Bool) → (a && b) ≡ true → b ≡ true
+and_right true b is = is
+and_right false b is = absurd (never_both (sym is))
+
+-- a frame that is on the disk and not acknowledged is kept
+pub kept_is : (links : Links) (p : PlayedState) (h : Host) (j number : ℕ) → AreOf links p h → IsOther h j → (h.links j).acknowledged < number → rule.may_say (h.links j) number ≡ true
+    → (f : Frame) × (frame_for p.outgoing (j - 1) number ≡ Some f) × (slice_get (sent_to j h.book) (number - 1) ≡ Some f)
+kept_is links p h j number are other more may =
+    let l = h.links j in
+    let all = sent_to j h.book in
+    let kept = are.ready.book.each j other in
+    let o = kept.0 in
+    let goes = are.ready.each j o other kept.1 in
+    let some = and_left (l.ready && nat_lt 0 number) (nat_le number l.sent) may in
+    let first = ltb-true 0 number (and_right l.ready (nat_lt 0 number) some) in
+    let last = leb-true number l.sent (and_right (l.ready && nat_lt 0 number) (nat_le number l.sent) may) in
+    let sent = goes.sent in
+    let made = goes.made in
+    let length_is = kept.2.made in
+    let dropped = goes.acknowledged in
+    let low : o.dropped < number = omega (arith, more, dropped) in
+    let place : number - 1 ≡ o.dropped + (number - o.dropped - 1) = omega (arith, low) in
+    elim (slice_get_cases all (number - 1)).1 [
+      | inl found ↦ (
+        found.0,
+        frame_there p.outgoing (j - 1) o number kept.1
+            ∙ ap (λ (b : Bool). cond b (slice_get o.frames (number - o.dropped - 1)) None) (lt-ltb o.dropped number low)
+            ∙ ap (λ (fs : List Frame). slice_get fs (number - o.dropped - 1)) kept.2.frames
+            ∙ get_dropped all o.dropped (number - o.dropped - 1)
+            ∙ ap (slice_get all) (sym place)
+            ∙ found.2,
+        found.2,
+      )
+      | inr past ↦ absurd (let out = past.0 in omega (arith, out, first, last, sent, made, length_is))
+    ]

@@ -1,5 +1,5 @@
 -- A host that is ready: its node is there, with the frames that others have not acknowledged.
-use Rattle.std.specs.Prelude.{◌≡◌, ℕ, ◌-◌, true, Some, slice_get, Option, None}
+use Rattle.std.specs.Prelude.{◌≡◌, ℕ, ◌-◌, ◌≤◌, true, Some, slice_get, Option, None}
 use Rattle.ra_node.specs.declared.outcome.Outcome.{Outcome}
 use Rattle.ra_link.specs.declared.link.Link.{Link}
 use Rattle.ra_book.specs.declared.book.event.BookKind.{BookKind}
@@ -11,11 +11,13 @@ use Rattle.ra_host.specs.Outgoing.{Outgoing}
 use Rattle.ra_host.specs.Played.{IsPlayedOf, PlayedState}
 use Rattle.ra_host.specs.Running.{AreLinksOf}
 
--- the link to a host goes with the frames for it: those that it has acknowledged are not kept
+-- the link to a host goes with the frames for it: those that it has acknowledged are not kept, and no more are on the
+-- disk than were made
 pub record GoWith (l : Link) (o : Outgoing) : Type 0 where
   pub ready : l.ready ≡ true
   pub made : l.made ≡ o.made
   pub acknowledged : l.acknowledged ≡ o.dropped
+  pub sent : l.sent ≤ l.made
 
 -- the node had the events of the host's book, and its frames go with its links
 pub record IsReadyWith (p : PlayedState) (h : Host) : Type 0 where

@@ -7,6 +7,8 @@ ghost use Rattle.ra_book.specs.declared.book.event.BookKind.TheVariants as kinds
 ghost use Rattle.ra_host.specs.Host as machine;
 ghost use Rattle.ra_host.specs.Host.{IsOther, IsOwn, connects, hears_ack, hears_hello, hears_welcome, is_taken, linked, Replays, ends, replays_book, syncs_book};
 ghost use Rattle.ra_host.specs.Played.{IsPlayedOf, RefusesEvent};
+ghost use Rattle.ra_book.specs.Book.{whole_events};
+ghost use Rattle.ra_book.specs.History.{clock_of};
 ghost use Rattle.ra_book.specs.Pairs.{sent_to};
 ghost use Rattle.ra_host.specs.Outgoing.{frame_for};
 ghost use Rattle.ra_host.specs.Ready.{AreOf, Happened, both};
@@ -62,6 +64,15 @@ impl Host {
         ensures { result.now ≡ self.now.links }
     {
         &self.links
+    }
+
+    /// Returns the clock of the last event, or 0 if there was none. It does not allocate.
+    pub fn clock(&self) -> u64
+        ensures value { result ≡ self.now.played.timed.clock }
+        ensures book { (h : machine.Host) → AreOf self.now.links self.now.played h
+            → result ≡ clock_of (whole_events h.book) }
+    {
+        self.played.clock()
     }
 
     /// Returns the frame for a host with this number, counted from 1, and its message, if it is on the disk and not

@@ -24,7 +24,7 @@ pub use laws::hosts::{
     hosts_with_whole_books_are_not_accused, no_ready_host_is_accused,
     nothing_is_under_way_when_hosts_acknowledged_all,
 };
-pub use laws::running::what_a_host_does_are_turns;
+pub use laws::running::{a_ready_host_keeps_what_others_lack, what_a_host_does_are_turns};
 pub use laws::{all_has_come_when_all_is_acknowledged, linked_books_fit};
 pub use links::Links;
 pub use played::Played;

@@ -68,6 +68,13 @@ impl Played {
         })
     }
 
+    /// Returns the clock of the last event, or 0 if there was none. It does not allocate.
+    pub fn clock(&self) -> u64
+        ensures { result ≡ self.now.timed.clock }
+    {
+        self.timed.clock()
+    }
+
     /// Makes an event happen: the node takes it, and what it sends are frames for other hosts. The cost is that of the
     /// node's call, and linear in the number of hosts.
     ///

@@ -1,13 +1,18 @@
-//! What the calls of a running host are in the machine of all hosts. The function does nothing, and its contract is the
-//! law.
-ghost use Rattle.std.specs.Prelude.{◌≡◌, ℕ, Option, Some, None, List, true, false, slice_get};
+//! What the calls of a running host are in the machine of all hosts, and what it keeps. Each function does nothing, and
+//! its contract is the law.
+ghost use Rattle.std.specs.Prelude.{◌≡◌, ◌-◌, ◌<◌, ℕ, Option, Some, None, List, true, false, slice_get};
 ghost use Rattle.ra_frame.specs.declared.frame.Frame.{Frame as BookFrame};
 ghost use Rattle.ra_link.specs.declared.message.Message.TheVariants.{Hello, Welcome, Frame, Ack, Old};
 ghost use Rattle.ra_link.specs.Link as rule;
 ghost use Rattle.ra_link.specs.Pair.{was_used};
 ghost use Rattle.ra_book.specs.declared.book.event.BookKind.{BookKind};
 ghost use Rattle.ra_host.specs.Host.{Host, IsOther, Happens, IsOwn, TakesFrame, begins, connects, hears_ack, hears_hello, hears_old, hears_welcome, is_taken, syncs_book};
+ghost use Rattle.ra_book.specs.Pairs.{sent_to};
+ghost use Rattle.ra_host.specs.declared.links.Links.{Links};
 ghost use Rattle.ra_host.specs.Hosts.{Event, Packet, Turns, says, silent};
+ghost use Rattle.ra_host.specs.Outgoing.{frame_for};
+ghost use Rattle.ra_host.specs.Played.{PlayedState};
+ghost use Rattle.ra_host.specs.Ready.{AreOf};
 
 /// The definitions that the calls of `Links` and `Host` cite are turns of a host in the machine of all hosts: so what a
 /// program does by these calls is a run of its host there, and the laws of the machine hold of it. What it says is what
@@ -49,4 +54,13 @@ pub fn what_a_host_does_are_turns()
         → Turns back h (Event.Says_ack j) (says h j (rule.ack_of (h.links j)) None) }
     ensures says_old { (back : ℕ → List Packet) (h : Host) (j : ℕ) → h.up ≡ true → IsOther h j
         → Turns back h (Event.Says_old j) (says h j (rule.old_of (h.links j)) None) }
+{}
+
+/// A ready host keeps each frame that is on its disk and not acknowledged, as it is in its book. So `Host::frame` returns
+/// it.
+pub fn a_ready_host_keeps_what_others_lack()
+    ensures { (links : Links) (p : PlayedState) (h : Host) (j number : ℕ) → AreOf links p h → IsOther h j
+        → (h.links j).acknowledged < number → rule.may_say (h.links j) number ≡ true
+        → (frame : BookFrame) × (frame_for p.outgoing (j - 1) number ≡ Some frame)
+        × (slice_get (sent_to j h.book) (number - 1) ≡ Some frame) }
 {}
