@@ -17,11 +17,11 @@ use Rattle.ra_clients.specs.Clients.Event.{Lock, Unlock, Bad, Refuse, Enter, Gon
 use Rattle.ra_clients.specs.Laws.{IsHolder, Lead, NeverLeaves, TellsUnlocked}
 use Rattle.ra_clients.proofs.Holding.{lasts}
 
-nothing : (kind : BookKind) → None ≡ Some kind → ⊥
+pub nothing : (kind : BookKind) → None ≡ Some kind → ⊥
 nothing kind is = absurd (cc)
 
 -- a name is given back by a leave only if it is held
-given_is : (j k : ℕ) (other name : List ℕ) (standing : Standing) → Some (given_back j other standing) ≡ Some (Leave k name) → (j ≡ k) × (other ≡ name) × (standing ≡ Holds)
+pub given_is : (j k : ℕ) (other name : List ℕ) (standing : Standing) → Some (given_back j other standing) ≡ Some (Leave k name) → (j ≡ k) × (other ≡ name) × (standing ≡ Holds)
 given_is j k other name (Waits until) is = absurd (cc)
 given_is j k other name Holds is = (cc, cc, refl)
 

@@ -27,7 +27,7 @@ pub at_same : (s : Clients) (j k : ℕ) (us : List NameUse) → k ≡ j → (wit
 at_same s j k us same = rw (eq-eqb k j same) refl
 
 -- no other name is the same
-not_it : (name other : List ℕ) → bytes_eq name other ≡ false → name ≢ other
+pub not_it : (name other : List ℕ) → bytes_eq name other ≡ false → name ≢ other
 not_it name other unequal same = false≢true (sym unequal ∙ ap (bytes_eq name) (sym same) ∙ its_own name)
 
 module _ (u : NameUse) (s : Clients) (k : ℕ) (name : List ℕ) (has : use_of name (s.uses_of k) ≡ Some u) where

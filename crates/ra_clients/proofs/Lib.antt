@@ -7,3 +7,5 @@ pub mod Refusing
 pub mod Limited
 pub mod Leaving
 pub mod TimeOrder
+pub mod Once
+pub mod Told

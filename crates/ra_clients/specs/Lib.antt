@@ -4,3 +4,4 @@ pub mod NumberUse
 pub mod Times
 pub mod Clients
 pub mod Laws
+pub mod Told

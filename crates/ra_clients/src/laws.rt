@@ -1,11 +1,12 @@
 //! What is true of the clients of a host, whatever happens. Each function does nothing, and its contract is the law.
-ghost use Rattle.std.specs.Prelude.{◌≡◌, ◌≢◌, ◌⊎◌, ◌+◌, ℕ, List, [], Some, Contains, length};
+ghost use Rattle.std.specs.Prelude.{◌≡◌, ◌≢◌, ◌⊎◌, ◌+◌, ℕ, List, [], Option, Some, Contains, length};
 ghost use Rattle.ra_book.specs.declared.book.event.BookKind.TheVariants.{Leave};
 ghost use Rattle.ra_host_text.specs.declared.answer.Answer.TheVariants.{Refused};
 ghost use Rattle.ra_host_text.specs.declared.answer.Refusal.{Refusal};
 ghost use Rattle.ra_clients.specs.declared.uses.NameUse.{NameUse};
 ghost use Rattle.ra_clients.specs.Uses.{use_of, without};
 ghost use Rattle.ra_clients.specs.Clients.{Limits, Clients, Event, IsLeaving, Turn, Turns};
+ghost use Rattle.ra_clients.specs.Told.{AreDistinct, AreHeld, Holding, Step};
 ghost use Rattle.ra_clients.specs.Laws.{ChangesNothing, HoldsOrLeaves, IsAccountedFor, IsGrant, IsHolder, IsSound, IsWithin, Lead, NeverLeaves, TellsGranted, TellsUnlocked};
 
 /// Told is held: a client that is told `granted` holds the name, since its node let it in in this very turn. It holds
@@ -20,6 +21,17 @@ pub fn what_is_told_is_held()
         → Lead l old turns new → IsHolder old k name → NeverLeaves k name turns → IsHolder new k name }
     ensures ends { (l : Limits) (s : Clients) (e : Event) (t : Turn) (k : ℕ) (name : List ℕ) → Turns l s e t
         → t.does ≡ Some (Leave k name) → TellsUnlocked s k name t ⊎ IsLeaving s k }
+{}
+
+/// Whoever holds a name holds it by the node, too, and no client has a name twice: if it was so before something happened
+/// to the clients, or at their node, it is so after it. Of the node it is taken that who is let in holds the name after
+/// the event, and that who held a name holds it until the node is to give it back. That of a host is so by
+/// `what_is_granted_is_held_until_its_client_leaves` of `ra_host`.
+pub fn who_holds_a_name_holds_it_by_the_node()
+    ensures distinct { (l : Limits) (old new : Clients) (before after : Holding) (e : Option Event)
+        → Step l old before e new after → AreDistinct old → AreHeld old before → AreDistinct new }
+    ensures held { (l : Limits) (old new : Clients) (before after : Holding) (e : Option Event)
+        → Step l old before e new after → AreDistinct old → AreHeld old before → AreHeld new after }
 {}
 
 /// No name is lost: in each turn, a client that had a name has it still, or its node is to give it back or to cancel
