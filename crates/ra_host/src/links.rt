@@ -1,6 +1,6 @@
 //! The links of a host.
-ghost use Rattle.std.specs.Prelude.{◌≡◌, ◌↔◌, ◌-◌, ◌<◌, ◌==◌, ◌&&◌, ◌≤◌, ℕ, All, true, false, slice_index_or, length, map, slice_get, slice_set, MatchOption, IfOk, IsTrue, IsOk, IsErr, IsErrOf};
-ghost use Rattle.ra_stamp.specs.Message.{from_of, to_of};
+ghost use Rattle.std.specs.Prelude.{◌≡◌, ◌↔◌, ◌-◌, ◌<◌, ◌==◌, ◌&&◌, ◌≤◌, ℕ, All, true, false, slice_index_or, length, map, slice_get, slice_set, MatchOption, if◌then◌else◌, IfOk, IsTrue, IsOk, IsErr, IsErrOf};
+ghost use Rattle.ra_stamp.specs.Message.{to_of};
 ghost use Rattle.ra_book.specs.Book.{BookState};
 ghost use Rattle.ra_book.specs.History.{frames_at};
 ghost use Rattle.ra_automaton.specs.State.{IsOtherNode};
@@ -11,7 +11,7 @@ ghost use Rattle.ra_host.specs.Outgoing.{made_at};
 ghost use Rattle.ra_host.specs.Played.{IsPlayedOf};
 ghost use Rattle.ra_host.specs.Replaying.{MayReplay, acknowledged_at, replayed};
 ghost use Rattle.ra_host.specs.Making.{MayMake, makes_each};
-ghost use Rattle.ra_host.specs.Running.{AreLinksOf, HasTaken};
+ghost use Rattle.ra_host.specs.Running.{AreLinksOf, HasTaken, names};
 
 use crate::{CountError, NoHost, Played};
 use ra_frame::Frame;
@@ -232,6 +232,10 @@ impl Links {
         frame: &Frame,
     ) -> Result<Heard, NoHost>
         ensures other { IsOk result ↔ IsOtherNode self.now.me (length self.now.links.items) other }
+        ensures value { IfOk result (λ heard. (h : Host) → AreLinksOf self.now h
+            → heard ≡ (if names frame.now other self.now.me
+            then rule.heard_frame (h.links other) start number
+            else Heard.Passed)) }
         ensures host { IfOk result (λ heard. (h : Host) → AreLinksOf self.now h
             → (heard ≡ Heard.Next) ↔ IsTrue (is_taken h other start number frame.now)) }
     {
@@ -344,7 +348,7 @@ fn make_each(links: &mut Vec<Link>, sends: &[NodeMessage])
 
 /// Returns whether the frame names these hosts as its sender and its receiver.
 fn is_between(frame: &Frame, from: NodeId, to: NodeId) -> bool
-    ensures { result ≡ (from_of frame.now.message == from && to_of frame.now.message == to) }
+    ensures { result ≡ names frame.now from to }
 {
     frame.message.from() == from && frame.message.to() == to
 }

@@ -1,5 +1,8 @@
 //! How many frames of each host are in a book.
-ghost use Rattle.std.specs.Prelude.{◌≡◌, [], ℕ, List, IfOk, OnOk, OnErr};
+ghost use Rattle.std.specs.Prelude.{◌≡◌, ◌-◌, [], ℕ, List, Some, slice_get, IfOk, OnOk, OnErr};
+ghost use Rattle.ra_stamp.specs.Message.{from_of};
+ghost use Rattle.ra_link.specs.Link.{greatest};
+ghost use Rattle.ra_book.specs.declared.book.event.BookKind.TheVariants as kinds;
 ghost use Rattle.ra_frame.specs.declared.frame.Frame.{Frame};
 ghost use Rattle.ra_book.specs.Book.{BookState, with_event};
 ghost use Rattle.ra_host.specs.Running.{HasTaken};
@@ -43,6 +46,8 @@ impl TakenCounts {
         ensures ok { OnOk result ((book : BookState) (clock : ℕ) (frames : List Frame)
             → HasTaken book self.old.counts.items
             → HasTaken (with_event book clock kind.now frames) self.new.counts.items) }
+        ensures too_many { OnErr result ((frame : Frame) × (kind.now ≡ kinds.Receive frame)
+            × (slice_get self.old.counts.items (from_of frame.message - 1) ≡ Some greatest)) }
         ensures err { OnErr result (self.new ≡ self.old) }
     {
         let BookKind::Receive(frame) = kind else {
