@@ -1,11 +1,9 @@
 -- When a node is to give a name back, and what is held over many turns.
-use Rattle.std.proofs.Common.{◌≡◌, ◌≢◌, ◌⊎◌, ℕ, Bool, true, false, cond, List, [], ◌∷◌, Option, Some, None, refl, sym, ap, subst, ◌∙◌, inl, inr}
-use Rattle.std.specs.Prelude.{nat_le}
+use Rattle.std.proofs.Common.{◌≡◌, ◌⊎◌, ℕ, true, List, [], ◌∷◌, Option, Some, None, refl, sym, ap, subst, ◌∙◌, inl, inr}
 use Rattle.std.proofs.lemmas.Bool.{cond_both, false≢true}
 use Rattle.ra_stamp.specs.declared.mode.Mode.{Mode}
 use Rattle.ra_book.specs.declared.book.event.BookKind.{BookKind}
-use Rattle.ra_book.specs.declared.book.event.BookKind.TheVariants.{Ask, Leave, Cancel}
-use Rattle.ra_host_text.specs.declared.answer.Answer.{Answer}
+use Rattle.ra_book.specs.declared.book.event.BookKind.TheVariants.{Leave}
 use Rattle.ra_host_text.specs.declared.answer.Answer.TheVariants.{Unlocked}
 use Rattle.ra_host_text.specs.declared.answer.Refusal.{Refusal}
 use Rattle.ra_clients.specs.declared.uses.NameUse.{NameUse}

@@ -1,20 +1,19 @@
 -- Which turns tell a client that it holds a name.
-use Rattle.std.proofs.Common.{◌≡◌, ◌≢◌, ℕ, zero, suc, Bool, true, false, cond, List, [], ◌∷◌, Option, Some, None, refl, sym, ap, subst, ◌∙◌, inl, inr, arith}
-use Rattle.std.specs.Prelude.{Contains, nat_le}
-use Rattle.std.proofs.lemmas.Bool.{cond_both, eq-eqb, false≢true}
+use Rattle.std.proofs.Common.{◌≡◌, ℕ, zero, suc, true, List, [], ◌∷◌, Option, Some, None, refl, sym, ap, subst, ◌∙◌, arith}
+use Rattle.std.specs.Prelude.{Contains}
+use Rattle.std.proofs.lemmas.Bool.{cond_both, false≢true}
 use Rattle.ra_stamp.specs.declared.mode.Mode.{Mode}
 use Rattle.ra_host_text.specs.declared.answer.Answer.{Answer}
 use Rattle.ra_host_text.specs.declared.answer.Answer.TheVariants.{Granted, Timeout, Unlocked, Refused}
 use Rattle.ra_host_text.specs.declared.answer.Refusal.{Refusal}
 use Rattle.ra_host_text.specs.declared.answer.Refusal.TheVariants.{Limit, NotHeld}
 use Rattle.ra_clients.specs.declared.uses.NameUse.{NameUse}
-use Rattle.ra_clients.specs.declared.uses.Standing.{Standing}
 use Rattle.ra_clients.specs.Uses.{use_of, waits_for, waits_if_some, let_in, held_use, lock_refusal}
-use Rattle.ra_clients.specs.Clients.{Limits, Clients, Turn, Event, Turns, told, with_uses, is_full, numbered, asks_unless, locks_as, until_at, ends, unlocks_use, unlocks_as}
+use Rattle.ra_clients.specs.Clients.{Limits, Clients, Turn, Event, Turns, told, with_uses, is_full, numbered, asks_unless, locks_as, until_at, unlocks_use, unlocks_as}
 use Rattle.ra_clients.specs.Clients.Event.{Lock, Unlock, Bad, Refuse, Enter, Gone, Time, Release, Give_up, Give_back}
 use Rattle.ra_clients.specs.Laws.{IsHolder, IsGrant, TellsGranted}
 use Rattle.ra_clients.proofs.Holding.{at_same}
-use Rattle.ra_clients.proofs.NamedUses.{none_some, after_entry}
+use Rattle.ra_clients.proofs.NamedUses.{after_entry}
 
 pub nothing_in : (x : ℕ × Answer) → Contains [] x → ⊥
 nothing_in x (k, low, is) = absurd (omega (arith, low))

@@ -1,20 +1,17 @@
 -- What becomes of a client's use of a name in a turn.
-use Rattle.std.proofs.Common.{◌≡◌, ◌≢◌, ℕ, ◌+◌, ◌==◌, Bool, true, false, cond, List, [], ◌∷◌, ◌++◌, Option, Some, None, refl, sym, ap, subst, ◌∙◌, inl, inr}
-use Rattle.std.specs.Prelude.{◌⊎◌, nat_le}
+use Rattle.std.proofs.Common.{◌≡◌, ◌≢◌, ℕ, true, false, List, [], ◌∷◌, ◌++◌, Option, Some, None, refl, sym, ap, subst, ◌∙◌, inl, inr}
+use Rattle.std.specs.Prelude.{◌⊎◌}
 use Rattle.std.specs.Str.{bytes_eq}
 use Rattle.std.proofs.lemmas.Bool.{cases_Bool, cases_eq, cond_both, eq-eqb, false≢true, ne_eqb}
 use Rattle.std.proofs.lemmas.Option.{same_Some}
 use Rattle.ra_stamp.specs.declared.mode.Mode.{Mode}
-use Rattle.ra_book.specs.declared.book.event.BookKind.{BookKind}
-use Rattle.ra_book.specs.declared.book.event.BookKind.TheVariants.{Leave}
 use Rattle.ra_host_text.specs.declared.answer.Answer.{Answer}
 use Rattle.ra_host_text.specs.declared.answer.Answer.TheVariants.{Timeout, Unlocked, Refused}
 use Rattle.ra_host_text.specs.declared.answer.Refusal.{Refusal}
 use Rattle.ra_clients.specs.declared.uses.NameUse.{NameUse}
-use Rattle.ra_clients.specs.declared.uses.Standing.{Standing}
-use Rattle.ra_clients.specs.declared.uses.Standing.TheVariants.{Waits, Holds}
+use Rattle.ra_clients.specs.declared.uses.Standing.TheVariants.{Holds}
 use Rattle.ra_clients.specs.Uses.{use_of, waits, waits_for, waits_if_some, new_use, let_in, held_use, without, lock_refusal}
-use Rattle.ra_clients.specs.Clients.{Limits, Clients, Turn, Event, Turns, silent, tells, with_uses, is_full, numbered, asks_unless, asks, locks_as, locks, until_at, told, takes_back, enters, given_back, ends, unlocks_use, unlocks_as, unlocks, closes, unconnected, goes, times_out, gives_back}
+use Rattle.ra_clients.specs.Clients.{Limits, Clients, Turn, Event, Turns, with_uses, is_full, numbered, asks_unless, locks_as, until_at, told, given_back, ends, unlocks_use, unlocks_as, closes, unconnected, goes}
 use Rattle.ra_clients.specs.Clients.Event.{Lock, Unlock, Bad, Refuse, Enter, Gone, Time, Release, Give_up, Give_back}
 use Rattle.ra_clients.specs.Laws.{IsHolder, HoldsOrLeaves, HasStill, IsRefused, IsAccountedFor}
 use Rattle.ra_clients.proofs.NamedUses.{its_own, same_name, after_push, after_end, after_other_entry, after_entry}

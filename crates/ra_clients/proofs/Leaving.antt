@@ -1,13 +1,12 @@
 -- Who has which number, and what becomes of a client that is gone.
-use Rattle.std.proofs.Common.{◌≡◌, ◌≢◌, ℕ, ◌==◌, Bool, true, false, cond, List, [], ◌∷◌, ◌++◌, Option, Some, None, refl, sym, ap, subst, ◌∙◌, inl, inr}
-use Rattle.std.specs.Prelude.{nat_le}
+use Rattle.std.proofs.Common.{◌≡◌, ◌≢◌, ℕ, List, [], Option, Some, None, refl, sym, ap, subst, ◌∙◌, inl, inr}
 use Rattle.std.proofs.lemmas.Bool.{cases_eq, cond_both, eq-eqb, ne_eqb}
 use Rattle.std.proofs.lemmas.Option.{same_Some}
 use Rattle.ra_stamp.specs.declared.mode.Mode.{Mode}
 use Rattle.ra_host_text.specs.declared.answer.Refusal.{Refusal}
 use Rattle.ra_clients.specs.declared.uses.NameUse.{NameUse}
 use Rattle.ra_clients.specs.Uses.{use_of, waits_for, lock_refusal}
-use Rattle.ra_clients.specs.Clients.{Limits, Clients, Turn, Event, Turns, IsUnused, IsFirstUnused, IsLeaving, is_full, numbered, asks_unless, locks_as, until_at, unlocks_use, unlocks_as, unconnected, goes}
+use Rattle.ra_clients.specs.Clients.{Limits, Clients, Turn, Event, Turns, IsUnused, IsLeaving, is_full, numbered, asks_unless, locks_as, until_at, unlocks_use, unlocks_as, unconnected}
 use Rattle.ra_clients.specs.Clients.Event.{Lock, Unlock, Bad, Refuse, Enter, Gone, Time, Release, Give_up, Give_back}
 use Rattle.ra_clients.specs.Laws.{IsSound}
 use Rattle.ra_clients.proofs.NamedUses.{none_some}

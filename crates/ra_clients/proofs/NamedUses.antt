@@ -1,12 +1,11 @@
 -- The use of one name, when a list of uses changes.
-use Rattle.std.proofs.Common.{◌≡◌, ◌≢◌, ℕ, suc, ◌+◌, Bool, true, false, cond, List, [], ◌∷◌, ◌++◌, length, Option, Some, None, refl, sym, ap, subst, ◌∙◌, inl, inr, arith}
-use Rattle.std.specs.Prelude.{◌⊎◌}
+use Rattle.std.proofs.Common.{◌≡◌, ◌≢◌, ℕ, ◌+◌, true, false, cond, List, [], ◌∷◌, ◌++◌, length, Option, Some, None, refl, sym, ap, ◌∙◌, inl, inr, arith}
 use Rattle.std.specs.Str.{bytes_eq}
-use Rattle.std.proofs.lemmas.Bool.{cases_Bool, true≢false}
+use Rattle.std.proofs.lemmas.Bool.{cases_Bool}
 use Rattle.std.proofs.lemmas.Option.{same_Some}
 use Rattle.std.proofs.lemmas.Slice.Eq.{bytes_eq-Decides}
 use Rattle.ra_clients.specs.declared.uses.NameUse.{NameUse}
-use Rattle.ra_clients.specs.Uses.{is_of, use_of, let_in, held_use, without}
+use Rattle.ra_clients.specs.Uses.{use_of, let_in, held_use, without}
 
 pub none_some : {A : Type 0} (x : A) → None ≡ Some x → ⊥
 none_some x is = absurd (cc)

@@ -1,5 +1,5 @@
 -- No client has a name twice.
-use Rattle.std.proofs.Common.{◌≡◌, ◌≢◌, ℕ, ◌+◌, Bool, true, false, cond, List, [], ◌∷◌, ◌++◌, length, Option, Some, None, refl, sym, ap, subst, ◌∙◌, inl, inr, is_some}
+use Rattle.std.proofs.Common.{◌≡◌, ◌≢◌, ℕ, Bool, true, false, cond, List, [], ◌∷◌, ◌++◌, length, Option, Some, None, refl, sym, ap, subst, ◌∙◌, inl, inr, is_some}
 use Rattle.std.specs.Prelude.{nat_le}
 use Rattle.std.specs.Str.{bytes_eq}
 use Rattle.std.proofs.lemmas.Bool.{cases_Bool, cases_eq, cond_both}
@@ -7,7 +7,7 @@ use Rattle.ra_stamp.specs.declared.mode.Mode.{Mode}
 use Rattle.ra_host_text.specs.declared.answer.Refusal.{Refusal}
 use Rattle.ra_host_text.specs.declared.answer.Refusal.TheVariants.{Busy, Limit}
 use Rattle.ra_clients.specs.declared.uses.NameUse.{NameUse}
-use Rattle.ra_clients.specs.Uses.{use_of, waits_for, new_use, held_use, let_in, without, lock_refusal}
+use Rattle.ra_clients.specs.Uses.{use_of, waits_for, new_use, let_in, without, lock_refusal}
 use Rattle.ra_clients.specs.Clients.{Limits, Clients, Turn, Event, Turns, with_uses, is_full, numbered, asks_unless, locks_as, until_at, unlocks_use, unlocks_as, unconnected, goes}
 use Rattle.ra_clients.specs.Clients.Event.{Lock, Unlock, Bad, Refuse, Enter, Gone, Time, Release, Give_up, Give_back}
 use Rattle.ra_clients.specs.Told.{AreOnce, AreDistinct}

@@ -1,12 +1,10 @@
 -- Whoever holds a name holds it by the node.
-use Rattle.std.proofs.Common.{◌≡◌, ◌≢◌, ◌⊎◌, ℕ, ◌+◌, Bool, true, false, cond, List, [], ◌∷◌, ◌++◌, Option, Some, None, refl, sym, ap, subst, ◌∙◌, inl, inr}
-use Rattle.std.specs.Prelude.{nat_le}
+use Rattle.std.proofs.Common.{◌≡◌, ◌≢◌, ◌⊎◌, ℕ, List, [], ◌∷◌, ◌++◌, Option, Some, None, refl, sym, ap, subst, ◌∙◌, inl, inr}
 use Rattle.std.specs.Str.{bytes_eq}
 use Rattle.std.proofs.lemmas.Bool.{cases_Bool, cases_eq, cond_both}
 use Rattle.std.proofs.lemmas.Option.{same_Some}
 use Rattle.ra_stamp.specs.declared.mode.Mode.{Mode}
-use Rattle.ra_book.specs.declared.book.event.BookKind.{BookKind}
-use Rattle.ra_book.specs.declared.book.event.BookKind.TheVariants.{Ask, Leave, Cancel}
+use Rattle.ra_book.specs.declared.book.event.BookKind.TheVariants.{Leave}
 use Rattle.ra_host_text.specs.declared.answer.Answer.{Answer}
 use Rattle.ra_host_text.specs.declared.answer.Answer.TheVariants.{Timeout, Unlocked, Refused}
 use Rattle.ra_host_text.specs.declared.answer.Refusal.{Refusal}
@@ -15,10 +13,10 @@ use Rattle.ra_clients.specs.declared.uses.NameUse.{NameUse}
 use Rattle.ra_clients.specs.declared.uses.Standing.{Standing}
 use Rattle.ra_clients.specs.declared.uses.Standing.TheVariants.{Waits, Holds}
 use Rattle.ra_clients.specs.Uses.{use_of, waits_for, new_use, let_in, without, lock_refusal}
-use Rattle.ra_clients.specs.Clients.{Limits, Clients, Turn, Event, Turns, silent, tells, told, closes, passes_time, releases, with_uses, is_full, numbered, asks_unless, locks_as, until_at, given_back, ends, unlocks_use, unlocks_as, unconnected, goes}
+use Rattle.ra_clients.specs.Clients.{Limits, Clients, Turn, Event, Turns, silent, tells, told, closes, passes_time, releases, with_uses, is_full, numbered, asks_unless, locks_as, until_at, ends, unlocks_use, unlocks_as, unconnected, goes}
 use Rattle.ra_clients.specs.Clients.Event.{Lock, Unlock, Bad, Refuse, Enter, Gone, Time, Release, Give_up, Give_back}
 use Rattle.ra_clients.specs.Laws.{IsHolder}
-use Rattle.ra_clients.specs.Told.{Holding, AreGranted, IsAtNode, IsEntry, TurnsIfAny, LetsIn, Step, AreHeld, AreOnce, AreDistinct}
+use Rattle.ra_clients.specs.Told.{Holding, AreGranted, IsEntry, TurnsIfAny, LetsIn, Step, AreHeld, AreDistinct}
 use Rattle.ra_clients.proofs.Ending.{given_is, nothing}
 use Rattle.ra_clients.proofs.Holding.{at_other, at_same, not_it}
 use Rattle.ra_clients.proofs.NamedUses.{none_some, same_name, after_push, after_end, after_other_entry}

@@ -1,5 +1,5 @@
 -- What is at the place of a name in a client's list, and what is after it.
-use Rattle.std.proofs.Common.{◌≡◌, ◌≢◌, ℕ, zero, suc, ◌+◌, ◌<◌, ◌≤◌, Bool, true, false, cond, List, [], ◌∷◌, ◌++◌, length, get_or, take, drop, set, Option, Some, None, refl, sym, ap, subst, ◌∙◌, arith, drop-cons}
+use Rattle.std.proofs.Common.{◌≡◌, ℕ, zero, suc, ◌<◌, true, false, cond, List, [], ◌∷◌, length, get_or, drop, set, Some, None, refl, ap, arith, drop-cons}
 use Rattle.std.specs.List.{remove}
 use Rattle.ra_clients.specs.declared.uses.NameUse.{NameUse}
 use Rattle.ra_clients.specs.Uses.{is_of, use_of, let_in, held_use, without, overdue, is_past, until_of, first_end, earlier}

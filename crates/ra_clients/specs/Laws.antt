@@ -1,8 +1,6 @@
 -- What is true of the clients of a host, whatever happens.
-use Rattle.std.specs.Prelude.{◌≡◌, ◌≢◌, ◌⊎◌, ℕ, ◌≤◌, Bool, true, false, List, [], ◌∷◌, Option, Some, None, Contains, length}
-use Rattle.ra_book.specs.declared.book.event.BookKind.{BookKind}
+use Rattle.std.specs.Prelude.{◌≡◌, ◌≢◌, ◌⊎◌, ℕ, ◌≤◌, true, List, [], ◌∷◌, Some, None, Contains, length}
 use Rattle.ra_book.specs.declared.book.event.BookKind.TheVariants.{Leave}
-use Rattle.ra_host_text.specs.declared.answer.Answer.{Answer}
 use Rattle.ra_host_text.specs.declared.answer.Answer.TheVariants.{Granted, Unlocked}
 use Rattle.ra_host_text.specs.declared.answer.Refusal.{Refusal}
 use Rattle.ra_clients.specs.declared.uses.NameUse.{NameUse}

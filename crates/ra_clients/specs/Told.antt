@@ -17,9 +17,10 @@ abbrev pub AreGranted : List (ℕ × List ℕ) → Holding → Type 0
 AreGranted [] held = Unit {0}
 AreGranted (x ∷ xs) held = (held x.1 ≡ Some x.0) × AreGranted xs held
 
--- An event at the node, which was to do this, lets these clients in. They hold the names after it. Who held a name
+-- An event at the node, which was to do this, lets these clients in. They hold the names after it. Whoever held a name
 -- holds it still, unless the node was to give it back.
-pub record IsAtNode (old : Holding) (does : Option BookKind) (entered : List (ℕ × List ℕ)) (new : Holding) : Type 0 where
+pub record IsAtNode (old : Holding) (does : Option BookKind) (entered : List (ℕ × List ℕ)) (new : Holding)
+    : Type 0 where
   pub granted : AreGranted entered new
   pub lasts : (k : ℕ) (name : List ℕ) → old name ≡ Some k → does ≢ Some (Leave k name) → new name ≡ Some k
 
@@ -38,9 +39,10 @@ LetsIn l s [] new = new ≡ s
 LetsIn l s (x ∷ xs) new =
     (seq : ℕ) × (node : ℕ) × (t : Turn) × Turns l s (Enter x.0 x.1 seq node) t × LetsIn l t.clients xs new
 
--- Something happens to the clients, or nothing. The node does what it is to do then, or something by itself, and whoever
--- is let in is told.
-pub record Step (l : Limits) (old : Clients) (before : Holding) (e : Option Event) (new : Clients) (after : Holding) : Type 0 where
+-- Something happens to the clients, or nothing. The node does what it is to do then, or something by itself, and
+-- whoever is let in is told.
+pub record Step (l : Limits) (old : Clients) (before : Holding) (e : Option Event) (new : Clients) (after : Holding)
+    : Type 0 where
   pub turn : Turn
   pub turns : TurnsIfAny l old e turn
   pub entered : List (ℕ × List ℕ)

@@ -1,5 +1,5 @@
 -- The names that a client holds or waits for, in the order in which it asked for them.
-use Rattle.std.specs.Prelude.{ℕ, Bool, true, false, ◌&&◌, nat_le, if◌then◌else◌, List, [], ◌∷◌, ◌++◌, length, min, Option, Some, None, is_some, Result, Ok, Err}
+use Rattle.std.specs.Prelude.{ℕ, Bool, true, false, nat_le, if◌then◌else◌, List, [], ◌∷◌, length, min, Option, Some, None, is_some}
 use Rattle.std.specs.Str.{bytes_eq}
 use Rattle.ra_host_text.specs.declared.answer.Refusal.{Refusal}
 use Rattle.ra_host_text.specs.declared.answer.Refusal.TheVariants.{Busy, Limit}

@@ -10,7 +10,7 @@ ghost use Rattle.ra_clients.specs.Told.{AreDistinct, AreHeld, Holding, Step};
 ghost use Rattle.ra_clients.specs.Laws.{ChangesNothing, HoldsOrLeaves, IsAccountedFor, IsGrant, IsHolder, IsSound, IsWithin, Lead, NeverLeaves, TellsGranted, TellsUnlocked};
 
 /// Told is held: a client that is told `granted` holds the name, since its node let it in in this very turn. It holds
-/// the name until its node is to give it back, which comes only if the client is told `unlocked` in the same turn, or is
+/// the name until its node is to give it back. That comes only if the client is told `unlocked` in the same turn, or is
 /// gone, or is one of before the start that is released.
 pub fn what_is_told_is_held()
     ensures granted { (l : Limits) (s : Clients) (e : Event) (t : Turn) (c : ℕ) (name : List ℕ) (seq node : ℕ)
@@ -23,10 +23,10 @@ pub fn what_is_told_is_held()
         → t.does ≡ Some (Leave k name) → TellsUnlocked s k name t ⊎ IsLeaving s k }
 {}
 
-/// Whoever holds a name holds it by the node, too, and no client has a name twice: if it was so before something happened
-/// to the clients, or at their node, it is so after it. Of the node it is taken that who is let in holds the name after
-/// the event, and that who held a name holds it until the node is to give it back. That of a host is so by
-/// `what_is_granted_is_held_until_its_client_leaves` of `ra_host`.
+/// Whoever holds a name holds it by the node, too, and no client has a name twice. If it was so before something
+/// happened to the clients or at their node, it is so after it. Of the node two things are taken: a client that is let
+/// in holds the name after the event, and it holds it until the node is to give it back. Of the node of a host they are
+/// so by `what_is_granted_is_held_until_its_client_leaves` of `ra_host`.
 pub fn who_holds_a_name_holds_it_by_the_node()
     ensures distinct { (l : Limits) (old new : Clients) (before after : Holding) (e : Option Event)
         → Step l old before e new after → AreDistinct old → AreHeld old before → AreDistinct new }
@@ -51,7 +51,7 @@ pub fn who_is_gone_gives_all_back()
         → length (without name uses) + 1 ≡ length uses }
 {}
 
-/// A refusal changes nothing: if a client is told `refused`, nothing becomes of any client, and the node is to do nothing.
+/// A refusal changes nothing: if a client is told `refused`, all clients are as before, and the node is to do nothing.
 /// Only if the node has refused what it was asked just now, the name goes again.
 pub fn refusals_change_nothing()
     ensures { (l : Limits) (s : Clients) (e : Event) (t : Turn) (c : ℕ) (name : List ℕ) (why : Refusal)
