@@ -124,7 +124,8 @@ const beginAtEnd = ({steps, news}) => begin({...sameScript(), steps, news}, step
 async function shrunk(choices, news) {
     if (!choices.every(isChoice)) throw new Error("a run with repeats cannot be shrunk");
     const told = await askRa("/shrink", {script: run.text, choices: choices.join(" ")});
-    if (told.out === "none\n") throw new Error("only a run that is stuck can be shrunk: somebody waits, nothing is under way, and nobody can go on");
+    if (told.out === "none\n")
+        throw new Error("only a run that is stuck can be shrunk: somebody waits, nothing is under way, and nobody can go on");
     const steps = told.out.trim().split(" ");
     const about = steps.length < choices.length ? `It was shrunk from ${choices.length} steps to ${steps.length}.`
         : `None of its ${steps.length} steps can be left out.`;

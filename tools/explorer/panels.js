@@ -38,7 +38,8 @@ export function showNow(view, before) {
 function beginningText() {
     const skipped = run.log?.skipped ?? 0;
     const text = skipped ? `The marks up to line ${skipped} were made.` : isMarks() ? "Nobody holds a name." : "No node has met any name.";
-    return `${text} ${run.steps.length ? "Step forward to see what happens." : run.kind === "script" ? "Click a client to let it ask." : ""}`.trim();
+    const next = run.steps.length ? "Step forward to see what happens." : run.kind === "script" ? "Click a client to let it ask." : "";
+    return `${text} ${next}`.trim();
 }
 
 // Shows the wrong line of a text after the last step before it. Elsewhere a note says that there is one.
@@ -47,7 +48,8 @@ export function showWrong() {
     const about = wrong ? `Line ${wrong.number} is wrong (${wrong.cause}). What comes before it is shown.` : "";
     tell("opened", [about, news, ...notes].filter(Boolean).join("\n"));
     at("wrong").hidden = !isHere;
-    if (isHere) at("wrong").replaceChildren(make("b", {}, `Line ${wrong.number} cannot come next: `), lineText(wrong), " ", make("br"), wrong.why);
+    const head = wrong && make("b", {}, `Line ${wrong.number} cannot come next: `);
+    if (isHere) at("wrong").replaceChildren(head, lineText(wrong), " ", make("br"), wrong.why);
 }
 
 const lineText = ({line}) => line === null ? "the text ends here." : make("code", {}, line);
@@ -60,8 +62,9 @@ export function showSteps(trace, goTo) {
             make("button", {type: "button", onclick: () => goTo(place + 1), title}, step.line),
             ...[...step.sends, ...step.marks].map((mark) => make("span", {className: "mark"}, mark)));
     });
-    if (run.wrong && run.at === run.steps.length)
-        items.push(make("li", {className: "wrong", title: run.wrong.why}, `\u2717 line ${run.wrong.number}: `, lineText(run.wrong), ` (${run.wrong.cause})`));
+    const {wrong} = run;
+    if (wrong && run.at === run.steps.length)
+        items.push(make("li", {className: "wrong", title: wrong.why}, `\u2717 line ${wrong.number}: `, lineText(wrong), ` (${wrong.cause})`));
     at("steps").start = (run.log?.skipped ?? 0) + 1;
     at("steps").replaceChildren(...items);
     items[items.length - 1]?.scrollIntoView({block: "nearest"});
@@ -154,7 +157,8 @@ function quietText({state, under, isDone, trace}) {
 
 // Says how many requests of a mark log are open.
 function openText({waiting, holding}) {
-    return `${counted(holding.length, "request")} ${holding.length === 1 ? "holds" : "hold"}, ${waiting.length} ${waiting.length === 1 ? "waits" : "wait"}.`;
+    const holds = `${counted(holding.length, "request")} ${holding.length === 1 ? "holds" : "hold"}`;
+    return `${holds}, ${waiting.length} ${waiting.length === 1 ? "waits" : "wait"}.`;
 }
 
 // ---- Choices and downloads

@@ -33,19 +33,20 @@ function scrollToLast({steps}) {
     if (lane) panel.scrollLeft = (lane.x1.baseVal.value - box.x) * scale - panel.clientWidth / 2;
 }
 
-// Shows the whole picture or, without the legend, from the names of the nodes on and as far to the right as its lanes need. It fills the
-// width of its place if that leaves its texts readable, and can be scrolled otherwise.
+// Shows the whole picture or, without the legend, from the names of the nodes on and as far to the right as its lanes and their texts need.
+// It fills the width of its place if that leaves its texts readable, and can be scrolled otherwise.
 export function cutPicture() {
     const panel = at("picture"), svg = panel.shadowRoot?.querySelector("svg");
     if (!svg || !panel.clientWidth) return;
     const [, , wide, high] = (svg.dataset.box ??= svg.getAttribute("viewBox")).split(" ").map(Number);
-    const lanes = [...svg.querySelectorAll("line.lane")];
-    const copies = svg.querySelector("line.copies");
+    const lanes = [...svg.querySelectorAll("line.lane, line.copies")];
     let left = 0, top = 0, width = wide;
     if (!at("legend").checked && lanes.length) {
         top = Math.min(...lanes.map((lane) => lane.y1.baseVal.value)) - 40;
         left = 20;
-        width = Math.min(wide, Math.max(...[...lanes, ...(copies ? [copies] : [])].map((lane) => lane.x1.baseVal.value)) + 110) - left;
+        const texts = [...svg.querySelectorAll("text")].map((text) => text.getBBox()).filter((box) => box.y >= top);
+        const ends = [...lanes.map((lane) => lane.x1.baseVal.value + 20), ...texts.map((box) => box.x + box.width + 8)];
+        width = Math.min(wide, Math.max(...ends)) - left;
     }
     const scale = Math.max(READABLE / smallestText(svg), Math.min(MOST_SCALE, (panel.clientWidth - 4) / width));
     svg.setAttribute("viewBox", `${left} ${top} ${width} ${high - top}`);

@@ -29,6 +29,14 @@ IS_SEEN = """((line, node) => {
     const name = [...panel.shadowRoot.querySelectorAll("text.node")].find((it) => it.textContent === node).getBoundingClientRect();
     return row.top >= place.top && row.bottom <= place.bottom && name.left >= place.left && name.right <= place.right;
 })"""
+# The texts of the picture that are cut at its right or left. The legend is above what is shown.
+CUT_TEXTS = """(() => {
+    const svg = document.getElementById("picture").shadowRoot.querySelector("svg"), place = svg.getBoundingClientRect();
+    return [...svg.querySelectorAll("text")].filter((it) => {
+        const box = it.getBoundingClientRect();
+        return box.bottom > place.top && (box.right > place.right + 1 || box.left < place.left - 1);
+    }).map((it) => it.textContent);
+})()"""
 ROWS = "new Set([...document.querySelectorAll('.lane')].map((it) => it.getBoundingClientRect().top)).size"
 
 
@@ -52,6 +60,7 @@ def try_many_nodes(page):
         page.press(*["ArrowRight"] * (nodes + 2))
         page.trial.same(f"{what}: where it is", f"step {nodes + 2} of {nodes * (2 * nodes)}", page.position())
         page.trial.same(f"{what}: cut off", [], page.see(CUT))
+        page.trial.same(f"{what}: texts of the picture that are cut off", [], page.see(CUT_TEXTS))
         # Each node has asked, in two lines, and the first two messages have come.
         line, node = str(2 * nodes + 3), "node 1" if nodes == 2 else "node 3"
         page.trial.is_true(f"{what}: the last step is seen in the picture", page.see(f"{IS_SEEN}('{line}', '{node}')"))

@@ -27,6 +27,7 @@ def try_server(trial, ra):
     """Sends what no page of ours sends."""
     with serving("--ra", ra.path) as (_, _, port, token):
         given = {"script": TWO, "choices": "c1"}
+        wanted = {"script": TWO, "policy": "seeded", "from": "1", "to": "2", "ends": "stuck", "lose": "0", "repeat": "0"}
         rows = [
             ("the page", 200, "GET", "/", None, {}),
             ("another file", 404, "GET", "/page.html", None, {}),
@@ -44,6 +45,11 @@ def try_server(trial, ra):
             ("choices that are no text", 400, "POST", "/state", {**given, "choices": ["c1"]}, {"X_Token": token}),
             ("choices that are too long", 413, "POST", "/state", {**given, "choices": "c1 " * 40_000}, {"X_Token": token}),
             ("a policy that is an option", 400, "POST", "/run", {"script": TWO, "policy": "--trace", "seed": "1", "lose": "0", "repeat": "0"}, {"X_Token": token}),
+            ("a run that is looked for", 200, "POST", "/find", wanted, {"X_Token": token}),
+            ("a run that is looked for, by a policy without seeds", 400, "POST", "/find", {**wanted, "policy": "oldest"}, {"X_Token": token}),
+            ("a run that is looked for, with another end", 400, "POST", "/find", {**wanted, "ends": "--trace"}, {"X_Token": token}),
+            ("a run that is looked for, from a text on", 400, "POST", "/find", {**wanted, "from": "1..2"}, {"X_Token": token}),
+            ("marks", 200, "POST", "/check-marks", {"trace": "request 1 1 r X 1\n"}, {"X_Token": token}),
             ("a script with half a character", 400, "POST", "/state", b'{"script": "\\ud800", "choices": ""}', {"X_Token": token}),
             ("no JSON", 400, "POST", "/state", b"{", {"X_Token": token}),
             ("a request that is too long", 413, "POST", "/state", None, {"X_Token": token, "Content_Length": "5000001"}),

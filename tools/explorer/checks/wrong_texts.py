@@ -1,4 +1,6 @@
 """Wrong traces, which are opened at their last step before the wrong line, and traces with few clients."""
+import re
+
 from checks.page import SEEN, button_of
 from checks.trial import beginnings, example, steps_of
 
@@ -64,13 +66,13 @@ def try_sends(page):
 def try_few_clients(page):
     """Opens a trace with clients 3 and 4 alone. A script for it has clients 1 and 2, too, and the page must not show these."""
     clients = "[...document.querySelectorAll('.client')].map((it) => it.dataset.client).sort()"
-    trace = TIE.replace("1 1 r X", "1 3 r X").replace("2 2 r X", "2 4 r X").replace("release 1 1", "release 1 3").replace("release 2 2", "release 2 4")
+    trace = re.sub(r"^(ask|request|enter|release|leave) ([12]) [12]", lambda it: f"{it[1]} {it[2]} {int(it[2]) + 2}", TIE, flags=re.M)
     page.open(trace)
     for place, (_, beginning) in enumerate([(None, "trace 2 2 0\nend\n"), *beginnings(trace)]):
         page.trial.same(f"few clients, step {place}: its clients", ["3", "4"], page.see(clients))
         page.compare_trace(f"few clients, step {place}", beginning)
         page.press("ArrowRight")
-    page.trial.same("few clients: nothing is told of another one", 0, page.see("document.body.innerText.match(/client [12]\\\\b/g)?.length ?? 0"))
+    page.trial.same("few clients: nothing is told of another one", 0, page.see("document.body.innerText.match(/client [12]\\b/g)?.length ?? 0"))
     page.see("document.getElementById('word').value = 'c1'; document.getElementById('word').focus()")
     page.press("Enter")
     page.trial.same("few clients: client 1 has no step", "there is no client 1", page.text("#fault"))
