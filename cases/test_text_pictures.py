@@ -30,8 +30,8 @@ ONE_LOCK_WORDS = [
     ("<title>client 1 at node 1 asks for r, exclusive</title>", 1),
     ("<title>request 1 from node 1 to node 2 for r, exclusive, sent at line 2, delivered at line 4</title>", 1),
     ("<title>reply 1 from node 2 to node 1 for r, sent at line 4, delivered at line 5</title>", 1),
-    ("<title>client 1 at node 1 waits for r, exclusive, from line 2 to line 5</title>", 1),
-    ("<title>client 1 at node 1 holds r, exclusive, from line 5 to line 7</title>", 1),
+    ("<title>client 1 at node 1 waits for r, exclusive, number 1, from line 2 to line 5</title>", 1),
+    ("<title>client 1 at node 1 holds r, exclusive, number 1, from line 5 to line 7</title>", 1),
     ("<title>client 1 at node 1 leaves r</title>", 1),
     (">request 1 r X</text>", 1),
     (">reply 1 r</text>", 1),
@@ -50,6 +50,7 @@ ONE_LOCK_WORDS = [
     (" is queued for ", 0),
     (">copies</text>", 0),
     (">end</text>", 0),
+    (">At the end:</text>", 0),
     (">node 1</text>", 1),
 ]
 
@@ -59,8 +60,8 @@ TWO_LOCKS_WORDS = [
     (", delivered at line ", 8),
     (" class=\"lane\"/>", 3),
     ("<title>reply 1 from node 1 to node 2 for r, sent at line 13, delivered at line 16</title>", 1),
-    ("<title>client 1 at node 1 holds r, exclusive, from line 11 to line 13</title>", 1),
-    ("<title>client 2 at node 2 waits for r, exclusive, from line 4 to line 16</title>", 1),
+    ("<title>client 1 at node 1 holds r, exclusive, number 1, from line 11 to line 13</title>", 1),
+    ("<title>client 2 at node 2 waits for r, exclusive, number 1, from line 4 to line 16</title>", 1),
     # It waits there from the delivery of the REQUEST on.
     ("<title>node 1 defers its reply to request 1 of node 2 for r, from line 8 to line 13</title>", 1),
     (", delivered at line 8, deferred</title>", 1),
@@ -76,7 +77,9 @@ LOST_AND_REPEATED_WORDS = [
     ("<title>request 1 from node 1 to node 2 for disk.2, shared and intent exclusive, sent at line 2, lost at line 5</title>", 1),
     ("<title>request 1 from node 1 to node 2 for disk.2, shared and intent exclusive, repeated at line 4</title>", 1),
     ("<title>request 1 from node 1 to node 2 for disk.2, shared and intent exclusive, repeated at line 4, still under way</title>", 1),
-    ("<title>client 7 at node 1 waits for disk.2, shared and intent exclusive, from line 2 on</title>", 1),
+    ("<title>client 7 at node 1 waits for disk.2, shared and intent exclusive, number 1, from line 2 on</title>", 1),
+    (">At the end:</text>", 1),
+    (">client 7 at node 1 waits for disk.2 (SIX), number 1, since line 2</text>", 1),
     (" holds ", 0),
     (", delivered at ", 0),
     (">copies</text>", 1),
@@ -105,10 +108,12 @@ end
 QUEUED_WORDS = [
     ("<title>client 2 at node 1 is queued for r, shared, from line 5 to line 7</title>", 1),
     ("<title>client 3 at node 1 is queued for r, shared, from line 6 on</title>", 1),
-    (" is queued for ", 2),
     (" waits for ", 0),
-    (" holds r, shared, from line 7 on</title>", 1),
+    (" holds r, shared, number 2, from line 7 on</title>", 1),
     (">asks r S</text>", 2),
+    (">client 2 at node 1 holds r (S), number 2, since line 7</text>", 1),
+    (">client 3 at node 1 is queued for r (S), since line 6: client 2 at node 1 holds it</text>", 1),
+    (" is queued for ", 3),
 ]
 
 # The trace of two names that differ in the middle, where the longer one has fourteen letters.
@@ -147,18 +152,55 @@ enter 3 8 r S 5
 # What stands in the picture of that log.
 LOG_WORDS = [
     ("<title>3 nodes, 2 requests, 2 grants</title>", 1),
-    (" class=\"lane\"/>", 3),
-    ("<title>client 7 at node 1 waits for r, exclusive, from line 1 to line 3</title>", 1),
-    ("<title>client 7 at node 1 holds r, exclusive, from line 3 to line 4</title>", 1),
-    ("<title>client 8 at node 3 waits for r, shared, from line 2 to line 5</title>", 1),
-    ("<title>client 8 at node 3 holds r, shared, from line 5 on</title>", 1),
-    (">asks r X</text>", 1),
-    (">asks r S</text>", 1),
-    (">leaves r</text>", 1),
+    # A group for the name, and a column for each client that asks for it.
+    (" class=\"group\"/>", 1),
+    (" class=\"name\">r</text>", 1),
+    (" class=\"column\"/>", 2),
+    (" class=\"lane\"/>", 0),
+    (">n1 c7</text>", 1),
+    (">n3 c8</text>", 1),
+    ("<title>client 7 at node 1 waits for r, exclusive, number 3, from line 1 to line 3</title>", 1),
+    ("<title>client 7 at node 1 holds r, exclusive, number 3, from line 3 to line 4</title>", 1),
+    ("<title>client 8 at node 3 waits for r, shared, number 5, from line 2 to line 5</title>", 1),
+    ("<title>client 8 at node 3 holds r, shared, number 5, from line 5 on</title>", 1),
+    (">X 3</text>", 1),
+    (">S 5</text>", 1),
     (" class=\"row\">", 5),
+    (">At the end:</text>", 1),
+    (">client 8 at node 3 holds r (S), number 5, since line 5</text>", 1),
+    ("Deadlock", 0),
+    # The legend says nothing of messages.
+    ("still under way", 0),
     (" is queued for ", 0),
     ("<title>request ", 0),
     ("<title>reply ", 0),
+]
+
+# A mark log of two clients that lock two names in opposite orders, and a third one that waits for the first.
+DEADLOCK_LOG = """\
+request 1 1 a X 1
+enter 1 1 a X 1
+request 2 2 b X 1
+enter 2 2 b X 1
+request 1 1 b X 2
+request 2 2 a X 2
+request 3 3 a S 3
+"""
+
+# What stands in the picture of that log.
+DEADLOCK_WORDS = [
+    (" class=\"group\"/>", 2),
+    (" class=\"column\"/>", 5),
+    (">client 1 at node 1 holds a (X), number 1, since line 2</text>", 1),
+    (">client 2 at node 2 holds b (X), number 1, since line 4</text>", 1),
+    (">client 1 at node 1 waits for b (X), number 2, since line 5: client 2 at node 2 holds it</text>", 1),
+    (">client 2 at node 2 waits for a (X), number 2, since line 6: client 1 at node 1 holds it</text>", 1),
+    (">client 3 at node 3 waits for a (S), number 3, since line 7: client 1 at node 1 holds it</text>", 1),
+    (">Deadlock: client 1 at node 1 waits for client 2 at node 2</text>", 1),
+    (">which waits for client 1 at node 1</text>", 1),
+    # The bars of the two requests are marked.
+    (" class=\"waiting X stuck\"/>", 2),
+    (" class=\"waiting S\"/>", 1),
 ]
 
 
@@ -187,10 +229,18 @@ class Pictures(unittest.TestCase):
         self.assert_picture("draw --marks", LOG, LOG_WORDS)
         self.assert_picture("draw --marks --from 4 --to 4", LOG, [
             ("<title>3 nodes, 2 requests, 2 grants, from line 4, to line 4</title>", 1),
-            (" holds r, exclusive, from line 3 to line 4</title>", 1),
-            (" waits for r, shared, from line 2 on</title>", 1),
+            (" holds r, exclusive, number 3, from line 3 to line 4</title>", 1),
+            (" waits for r, shared, number 5, from line 2 on</title>", 1),
             (" class=\"row\">", 1),
+            (">After line 4:</text>", 1),
         ])
+
+    def test_a_deadlock_is_told_below_the_rows(self):
+        self.assert_picture("draw --marks", DEADLOCK_LOG, DEADLOCK_WORDS)
+        # A client that waits for another name, too, may go on with that.
+        self.assert_picture("draw --marks", DEADLOCK_LOG + "request 2 2 c X 1\n", [("Deadlock", 0)])
+        # Before the last request of the two, nobody waits in a circle.
+        self.assert_picture("draw --marks --to 5", DEADLOCK_LOG, [("Deadlock", 0), (" stuck", 0)])
 
     def test_a_part_has_what_reaches_into_it(self):
         # What was sent before is drawn where it comes in the part, and what is sent in it and comes after it is under way.
@@ -198,7 +248,7 @@ class Pictures(unittest.TestCase):
             ("<title>2 nodes, 1 request, 2 messages, from line 4, to line 4</title>", 1),
             (", sent at line 2, delivered at line 4</title>", 1),
             (", sent at line 4, still under way</title>", 1),
-            (" waits for r, exclusive, from line 2 on</title>", 1),
+            (" waits for r, exclusive, number 1, from line 2 on</title>", 1),
             # A bar that began before has its name at the top.
             (")rotate(90)\" class=\"label\">r X</text>", 1),
             (" asks for ", 0),
@@ -212,13 +262,14 @@ class Pictures(unittest.TestCase):
         ])
         # The marks of the last step are drawn with it.
         self.assert_picture("draw --from 5 --to 5", QUEUED, [
-            ("<title>client 1 at node 1 holds r, exclusive, from line 2 on</title>", 1),
+            ("<title>client 1 at node 1 holds r, exclusive, number 1, from line 2 on</title>", 1),
             (" is queued for r, shared, from line 5 on</title>", 1),
-            (" is queued for ", 1),
+            (" is queued for r (S), since line 5: client 1 at node 1 holds it</text>", 1),
+            (" is queued for ", 2),
         ])
         self.assert_picture("draw --from 7 --to 7", QUEUED, [
-            (" holds r, exclusive, from line 2 to line 7</title>", 1),
-            (" holds r, shared, from line 7 on</title>", 1),
+            (" holds r, exclusive, number 1, from line 2 to line 7</title>", 1),
+            (" holds r, shared, number 2, from line 7 on</title>", 1),
             (" is queued for r, shared, from line 5 to line 7</title>", 1),
         ])
 

@@ -1,5 +1,6 @@
 //! The places of everything on the page. Lengths are in pixels, and none comes near its maximum: so they are added
 //! without a refusal.
+mod log_columns;
 mod name_cut;
 mod node_lane;
 pub mod sizes;
@@ -7,8 +8,9 @@ pub mod sizes;
 ghost use Rattle.std.specs.Prelude.{◌≡◌, nat_le};
 ghost use Rattle.ra_draw.specs.Pictures.{row_y};
 
-use crate::timeline::{LockSpan, Timeline};
+use crate::timeline::{LockKey, LockSpan, OpenLocks, Timeline};
 use itoa::Buffer;
+pub use log_columns::{LogColumns, NameGroup};
 pub use name_cut::NameCut;
 use name_cut::name_cut_of;
 pub use node_lane::NodeLane;
@@ -32,7 +34,7 @@ pub struct Point {
 #[derive(Clone, Copy)]
 pub struct LockBar {
     pub span: LockSpan,
-    /// The place of its column.
+    /// The place of its column beside its node. A mark log has one column of a client for each name.
     pub column: u32,
     /// The last row that it has, which is the one after the part if it is not over.
     pub end: u32,
@@ -56,9 +58,13 @@ pub struct Layout {
     pub copies_x: u64,
     /// The width of the page.
     pub width: u64,
-    /// The lanes of the nodes, from node 1 on.
+    /// The lanes of the nodes of a trace, from node 1 on.
     pub lanes: Vec<NodeLane>,
+    /// The columns of a mark log.
+    pub columns: LogColumns,
     pub bars: Vec<LockBar>,
+    /// What is left at the end of the part.
+    pub open: OpenLocks,
 }
 
 impl Layout {
@@ -89,12 +95,44 @@ impl Layout {
             copies_x: 0,
             width: LEGEND_WIDTH,
             lanes: Vec::new(alloc),
+            columns: LogColumns::new(alloc),
             bars: Vec::new(alloc),
+            open: OpenLocks::new(alloc),
         }
     }
 
-    /// Lays it out: the lanes are from left to right, each after its bars.
-    pub fn fill(&mut self, alloc: Global, spans: &[LockSpan]) -> Result<(), Memory>
+    /// Lays out what is drawn of a run.
+    pub fn fill(&mut self, alloc: Global, timeline: &Timeline) -> Result<(), Memory>
+        ensures { self.new.nodes ≡ self.old.nodes }
+    {
+        let spans = timeline.spans.all.as_slice();
+        let Ok(open) = OpenLocks::of(alloc, spans) else {
+            return Err(Memory);
+        };
+        self.open = open;
+        if timeline.is_log {
+            self.fill_columns(alloc, spans)
+        } else {
+            self.fill_lanes(alloc, spans)
+        }
+    }
+
+    /// Lays out a mark log.
+    fn fill_columns(&mut self, alloc: Global, spans: &[LockSpan]) -> Result<(), Memory>
+        ensures { self.new.nodes ≡ self.old.nodes }
+    {
+        let Ok(bars) = self.columns.add_all(alloc, spans, self.end) else {
+            return Err(Memory);
+        };
+        self.bars = bars;
+        let longest = self.cut.letters_of(self.cut.longest);
+        let last = self.columns.place(self.nodes, longest);
+        self.width = last.saturating_add(RIGHT_MARGIN).max(LEGEND_WIDTH);
+        Ok(())
+    }
+
+    /// Lays out a trace: the lanes are from left to right, each after its bars.
+    fn fill_lanes(&mut self, alloc: Global, spans: &[LockSpan]) -> Result<(), Memory>
         ensures { self.new.nodes ≡ self.old.nodes }
     {
         for _node in 0..self.nodes {
@@ -203,6 +241,25 @@ impl Layout {
         Point {
             x: self.x(node),
             y: self.y(row),
+        }
+    }
+
+    /// Returns the left end of a bar.
+    pub fn bar_x(&self, bar: &LockBar) -> u64 {
+        match self.columns.column_of(&bar.span.key) {
+            Some(column) => column.x,
+            None => self.column_x(bar.span.key.node, bar.column),
+        }
+    }
+
+    /// Returns the place at which a client acts on a row: its bar for the name in a mark log, and its node in a trace.
+    pub fn acts_at(&self, key: &LockKey, row: u32) -> Point {
+        match self.columns.column_of(key) {
+            Some(column) => Point {
+                x: column.x.saturating_add(COLUMN_WIDTH / 2),
+                y: self.y(row),
+            },
+            None => self.at(key.node, row),
         }
     }
 

@@ -7,9 +7,11 @@ ghost use Rattle.ra_trace.specs.declared.line.Line.{Line};
 
 mod act_look;
 mod deferral_shapes;
+mod end_lines;
 mod layers;
 mod legend;
 mod lock_bars;
+mod log_groups;
 mod message_shapes;
 mod row_numbers;
 mod svg_writer;
@@ -19,8 +21,9 @@ use crate::Part;
 use crate::layout::Layout;
 use crate::layout::sizes::BOTTOM_MARGIN;
 use crate::timeline::Timeline;
+use end_lines::lines_height;
 use layers::Layers;
-use legend::{LEGEND, LOOKS};
+use legend::{LEGEND, LEGEND_OF_LOG, LOOKS};
 use ra_stamp::Memory;
 use row_numbers::put_row_numbers;
 use std::alloc::Global;
@@ -67,10 +70,19 @@ fn put_headline(svg: &mut SvgWriter, nodes: u16, totals: &Totals, part: Part) {
     }
 }
 
-/// Adds the size of the picture, its title, how shapes look, and the legend.
-fn put_head(svg: &mut SvgWriter, layout: &Layout, totals: &Totals, part: Part) {
+/// Adds the size of the picture, its title, how shapes look, and this legend.
+fn put_head(
+    svg: &mut SvgWriter,
+    layout: &Layout,
+    legend: &'static str,
+    totals: &Totals,
+    part: Part,
+) {
     let width = layout.width;
-    let height = layout.y(layout.end).saturating_add(BOTTOM_MARGIN);
+    let height = layout
+        .y(layout.end)
+        .saturating_add(lines_height(&layout.open))
+        .saturating_add(BOTTOM_MARGIN);
     svg.write(
         " width=\"$\" height=\"$\" viewBox=\"0 0 $ $\">\n<title>",
         &[Number(width), Number(height), Number(width), Number(height)],
@@ -81,11 +93,32 @@ fn put_head(svg: &mut SvgWriter, layout: &Layout, totals: &Totals, part: Part) {
         &[Text(LOOKS), Number(width), Number(height)],
     );
     put_headline(svg, layout.nodes, totals, part);
-    svg.write("</text>\n$", &[Text(LEGEND)]);
+    svg.write("</text>\n$", &[Text(legend)]);
 }
 
-/// Draws a part of a text that was followed, the attributes of the picture first, and the numbers of its lines apart.
-/// If memory runs out, the latter say so.
+/// Draws what was laid out, the attributes of the picture first, and the numbers of its lines apart.
+fn draw_layout(
+    layers: &mut Layers,
+    numbers: &mut SvgWriter,
+    layout: &Layout,
+    timeline: &Timeline,
+    totals: &Totals,
+    part: Part,
+)
+    ensures { Adds numbers.old (rows_group layout.now.nodes (numbers_of timeline.now.rows.items)) numbers.new }
+{
+    let legend = if timeline.is_log {
+        LEGEND_OF_LOG
+    } else {
+        LEGEND
+    };
+    put_head(&mut layers.shapes, layout, legend, totals, part);
+    layers.draw(layout, timeline);
+    layers.draw_end(layout, part);
+    put_row_numbers(numbers, layout, &timeline.rows);
+}
+
+/// Draws a part of a text that was followed, and the numbers of its lines apart. If memory runs out, the latter say so.
 fn draw_timeline(
     alloc: Global,
     layers: &mut Layers,
@@ -97,12 +130,8 @@ fn draw_timeline(
     ensures { Adds numbers.old (rows_group timeline.now.nodes (numbers_of timeline.now.rows.items)) numbers.new }
 {
     let mut layout = Layout::new(alloc, timeline);
-    match layout.fill(alloc, &timeline.spans.all) {
-        Ok(()) => {
-            put_head(&mut layers.shapes, &layout, totals, part);
-            layers.draw(&layout, timeline);
-            put_row_numbers(numbers, &layout, &timeline.rows);
-        }
+    match layout.fill(alloc, timeline) {
+        Ok(()) => draw_layout(layers, numbers, &layout, timeline, totals, part),
         Err(_) => numbers.is_out = true,
     }
 }

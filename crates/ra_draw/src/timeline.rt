@@ -5,6 +5,7 @@ mod deferral;
 mod lock_span;
 mod message_path;
 mod moment;
+mod open_locks;
 
 ghost use Rattle.std.specs.Prelude.{◌≡◌, ◌++◌, ◌∷◌, false, List, [], if◌then◌else◌, is_some, IfOk, OnOk};
 ghost use Rattle.ra_draw.specs.Following.{IsSamePage, Notes, NotesAll, numbers_of};
@@ -18,6 +19,7 @@ use indexmap::IndexMap;
 pub use lock_span::{LockKey, LockSpan, LockSpans};
 pub use message_path::{MessageEnd, MessagePath, MessagePaths};
 pub use moment::Moment;
+pub use open_locks::{LockStage, OpenLock, OpenLocks};
 use ra_stamp::{Mark, Memory, Message};
 use ra_text::cut;
 use ra_trace::Line;
@@ -41,6 +43,8 @@ pub struct Timeline {
     /// The number of nodes: all nodes of a trace, or the nodes of a log up to the highest one that it names in or
     /// before the part, at least one.
     pub nodes: u16,
+    /// Whether the text is a mark log, which has no messages.
+    pub is_log: bool,
     /// The moment of the last step, or of the last mark of a log.
     moment: Moment,
     /// Those of the part, in order.
@@ -77,6 +81,7 @@ impl Timeline {
     {
         Timeline {
             nodes: 1,
+            is_log: false,
             moment: Moment { line: 0, row: 0 },
             rows: Vec::new(alloc),
             paths: MessagePaths {
@@ -293,6 +298,7 @@ impl Timeline {
         let Ok(mut world) = world_of(alloc, text) else {
             return Err(Memory);
         };
+        self.is_log = world.is_none();
         self.take_lines(alloc, &mut world, text, part)
     }
 }

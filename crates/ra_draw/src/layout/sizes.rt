@@ -58,11 +58,24 @@ pub const FARTHEST_DEFERRAL: u64 = 23;
 
 pub const DEFERRAL_STEP: u64 = 4;
 
+/// The width between the groups of two names of a mark log, and within a group at its left.
+pub const GROUP_GAP: u64 = 8;
+
+pub const GROUP_MARGIN: u64 = 6;
+
+/// The letters of a label in a mark log beside the number: a mode and spaces.
+pub const LOG_LABEL_LETTERS: u64 = 5;
+
 /// How many rows are between two that name the nodes again.
 pub const BAND_ROWS: u32 = 40;
 
 /// The height of what names the nodes again.
 pub const BAND_HEIGHT: u64 = 30;
+
+/// The height of a line below the rows, and of what is between them.
+pub const END_HEIGHT: u64 = 18;
+
+pub const END_GAP: u64 = 6;
 
 /// The most messages under way at the end that have rows of their own.
 pub const UNDER_WAY_ROWS: u32 = 64;

@@ -70,9 +70,9 @@ impl Layers {
         }
     }
 
-    /// Draws a dot at the place at which a client asks for a name in a mode, leaves it or gives it up, and labels it.
-    /// The dot of a client that gives up is crossed.
-    fn draw_client_act(&mut self, place: Point, act: &ActLook, cut: NameCut) {
+    /// Draws a dot at the place at which a client asks for a name in a mode, leaves it or gives it up. The dot of a
+    /// client that gives up is crossed.
+    fn draw_dot(&mut self, place: Point, act: &ActLook) {
         let key = &act.key;
         // First comes a larger dot that is not seen, so that a pointer hits it easily.
         self.shapes.write(
@@ -94,6 +94,11 @@ impl Layers {
             self.draw_cross(place);
         }
         self.shapes.put(b"</g>\n");
+    }
+
+    /// Labels the dot of a client beside the lane of its node.
+    fn label_dot(&mut self, place: Point, act: &ActLook, cut: NameCut) {
+        let key = &act.key;
         self.labels.write(
             "<text x=\"$\" y=\"$\" class=\"label to-right\">$ $$$</text>\n",
             &[
@@ -136,22 +141,21 @@ impl Layers {
         );
     }
 
-    /// Draws what a client or a node does on a row.
-    fn draw_act(&mut self, layout: &Layout, act: &Act, row: u32) {
-        match act {
-            Act::Forget(node) => self.draw_forgetting(*node, layout.at(*node, row)),
-            Act::Ask(key, mode) => {
-                let look = ActLook::of_ask(key, *mode);
-                self.draw_client_act(layout.at(key.node, row), &look, layout.cut);
+    /// Draws what a client or a node does on a row. In a mark log the label of a bar says what its client asks for.
+    fn draw_act(&mut self, layout: &Layout, act: &Act, row: u32, is_log: bool) {
+        let look = match act {
+            Act::Forget(node) => {
+                self.draw_forgetting(*node, layout.at(*node, row));
+                return;
             }
-            Act::Leave(key) => {
-                let look = ActLook::of_leave(key);
-                self.draw_client_act(layout.at(key.node, row), &look, layout.cut);
-            }
-            Act::Cancel(key) => {
-                let look = ActLook::of_cancel(key);
-                self.draw_client_act(layout.at(key.node, row), &look, layout.cut);
-            }
+            Act::Ask(key, mode) => ActLook::of_ask(key, *mode),
+            Act::Leave(key) => ActLook::of_leave(key),
+            Act::Cancel(key) => ActLook::of_cancel(key),
+        };
+        let place = layout.acts_at(&look.key, row);
+        self.draw_dot(place, &look);
+        if !is_log {
+            self.label_dot(place, &look, layout.cut);
         }
     }
 
@@ -161,7 +165,7 @@ impl Layers {
         for row in &timeline.rows {
             number = u32::saturating_add(number, 1);
             if let Some(act) = &row.act {
-                self.draw_act(layout, act, number);
+                self.draw_act(layout, act, number, timeline.is_log);
             }
         }
         if timeline.paths.still_under_way > 0 {
@@ -173,8 +177,8 @@ impl Layers {
         }
     }
 
-    /// Draws all of the page: first the lanes, and after the nodes' lanes the one that copies come from.
-    pub fn draw(&mut self, layout: &Layout, timeline: &Timeline) {
+    /// Draws the lanes, and after the nodes' lanes the one that copies come from.
+    fn draw_lanes(&mut self, layout: &Layout) {
         let mut number = 0;
         for lane in &layout.lanes {
             number = u16::saturating_add(number, 1);
@@ -190,8 +194,22 @@ impl Layers {
                 &[Number(layout.copies_x), Number(NODES_Y)],
             );
         }
+    }
+
+    /// Draws all of the page, from what is farthest back.
+    pub fn draw(&mut self, layout: &Layout, timeline: &Timeline) {
+        if timeline.is_log {
+            self.draw_groups(layout);
+        } else {
+            self.draw_lanes(layout);
+        }
         for bar in &layout.bars {
             self.draw_lock_bar(layout, bar);
+            if timeline.is_log {
+                self.label_request(layout, bar);
+            } else {
+                self.name_lock_bar(layout, bar);
+            }
         }
         self.draw_deferrals(layout, &timeline.deferrals.all);
         for path in &timeline.paths.drawn {

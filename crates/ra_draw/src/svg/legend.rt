@@ -34,7 +34,11 @@ text{font-family:sans-serif;font-size:11px;fill:#222}
 .ask{fill:#000}.leave{fill:#fff;stroke:#000;stroke-width:1.5}
 .S{fill:url(#mode-S);stroke:#0072b2}.X{fill:url(#mode-X);stroke:#8a3c00}.IS{fill:url(#mode-IS);stroke:#009e73}
 .IX{fill:url(#mode-IX);stroke:#b87f00}.SIX{fill:url(#mode-SIX);stroke:#a34f7d}
+.name{font-weight:bold;font-size:13px}
+.column{stroke:#bbb;stroke-width:1}.group{fill:#f4f4f4}
+.end{font-size:12px}.heading{font-weight:bold}.stuck-text{fill:#c00}
 .queued{fill:#fff;stroke-width:1}.waiting{fill-opacity:.3;stroke-dasharray:3 2;stroke-width:1.3}.inside{stroke-width:1.3}
+.stuck{stroke:#c00;stroke-width:3}
 </style>
 ";
 
@@ -56,5 +60,21 @@ pub const LEGEND: &str = "<g>
 <rect x=\"252\" y=\"95\" width=\"18\" height=\"14\" class=\"inside IS\"/><text x=\"278\" y=\"106\">IS, intent shared</text>
 <rect x=\"410\" y=\"95\" width=\"18\" height=\"14\" class=\"inside IX\"/><text x=\"436\" y=\"106\">IX, intent exclusive</text>
 <rect x=\"588\" y=\"95\" width=\"18\" height=\"14\" class=\"inside SIX\"/><text x=\"614\" y=\"106\">SIX, shared and intent exclusive</text>
+</g>
+";
+
+/// What the shapes of a mark log mean.
+pub const LEGEND_OF_LOG: &str = "<g>
+<circle cx=\"25\" cy=\"54\" r=\"4\" class=\"ask\"/><text x=\"42\" y=\"58\">requests: mode, number</text>
+<rect x=\"200\" y=\"47\" width=\"10\" height=\"14\" class=\"waiting X\"/><text x=\"219\" y=\"58\">waits</text>
+<rect x=\"284\" y=\"47\" width=\"18\" height=\"14\" class=\"inside X\"/><text x=\"311\" y=\"58\">holds</text>
+<circle cx=\"384\" cy=\"54\" r=\"4\" class=\"leave\"/><text x=\"397\" y=\"58\">leaves</text>
+<path class=\"cross\" d=\"M480 54m-5 -5l10 10m0 -10l-10 10\"/><text x=\"495\" y=\"58\">gives up</text>
+<text x=\"590\" y=\"58\">n1 c2: client 2 at node 1</text>
+<rect x=\"16\" y=\"73\" width=\"18\" height=\"14\" class=\"inside S\"/><text x=\"42\" y=\"84\">S, shared</text>
+<rect x=\"124\" y=\"73\" width=\"18\" height=\"14\" class=\"inside X\"/><text x=\"150\" y=\"84\">X, exclusive</text>
+<rect x=\"252\" y=\"73\" width=\"18\" height=\"14\" class=\"inside IS\"/><text x=\"278\" y=\"84\">IS, intent shared</text>
+<rect x=\"410\" y=\"73\" width=\"18\" height=\"14\" class=\"inside IX\"/><text x=\"436\" y=\"84\">IX, intent exclusive</text>
+<rect x=\"588\" y=\"73\" width=\"18\" height=\"14\" class=\"inside SIX\"/><text x=\"614\" y=\"84\">SIX, shared and intent exclusive</text>
 </g>
 ";

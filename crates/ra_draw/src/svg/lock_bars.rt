@@ -15,24 +15,29 @@ struct PhaseLook {
     class: &'static str,
     /// How far to the right in its column it begins.
     inset: u64,
+    /// Whether the request has a number by then.
+    has_number: bool,
 }
 
 const QUEUED: PhaseLook = PhaseLook {
     what: "is queued for",
     class: "queued",
     inset: 10,
+    has_number: false,
 };
 
 const WAITING: PhaseLook = PhaseLook {
     what: "waits for",
     class: "waiting",
     inset: 7,
+    has_number: true,
 };
 
 const INSIDE: PhaseLook = PhaseLook {
     what: "holds",
     class: "inside",
     inset: 3,
+    has_number: true,
 };
 
 impl Layers {
@@ -71,13 +76,21 @@ impl Layers {
             self.begin_phase(&bar.span.key, look.what);
             self.shapes
                 .put(MODE_TEXTS[bar.span.mode as usize].as_bytes());
+            if look.has_number {
+                self.shapes.write(", number $", &[Number(bar.span.number)]);
+            }
             self.shapes.write(", from line $", &[Number(first.line)]);
             self.shapes.write(said, &[Number(line)]);
-            let x = layout.column_x(bar.span.key.node, bar.column);
+            let x = layout.bar_x(bar);
             let y = layout.y(first.row);
             let height = layout.y(end).saturating_sub(y);
+            let stuck = if last.is_none() && layout.open.is_in_circle(&bar.span.key) {
+                " stuck"
+            } else {
+                ""
+            };
             self.shapes.write(
-                "<rect x=\"$\" y=\"$\" width=\"$\" height=\"$\" class=\"touch\"/><rect x=\"$\" y=\"$\" width=\"$\" height=\"$\" class=\"$ $\"/></g>\n",
+                "<rect x=\"$\" y=\"$\" width=\"$\" height=\"$\" class=\"touch\"/><rect x=\"$\" y=\"$\" width=\"$\" height=\"$\" class=\"$ $$\"/></g>\n",
                 &[
                     Number(x),
                     Number(y),
@@ -89,6 +102,7 @@ impl Layers {
                     Number(height),
                     Text(look.class),
                     Text(bar.span.mode.word()),
+                    Text(stuck),
                 ],
             );
         }
@@ -96,7 +110,7 @@ impl Layers {
 
     /// Writes the name and the mode of a lock along its bar, from the beginning or the top of the page on, if there is
     /// room.
-    fn name_lock_bar(&mut self, layout: &Layout, bar: &LockBar) {
+    pub fn name_lock_bar(&mut self, layout: &Layout, bar: &LockBar) {
         let span = &bar.span;
         let letters = layout
             .cut
@@ -106,7 +120,7 @@ impl Layers {
         let y = layout.y(span.asked.row);
         let height = layout.y(bar.end).saturating_sub(y);
         if layout.is_wide() && (letters as u64).saturating_mul(WIDE_LETTER) <= height {
-            let x = layout.column_x(span.key.node, bar.column);
+            let x = layout.bar_x(bar);
             self.labels.write(
                 "<text transform=\"translate($ $)rotate(90)\" class=\"label\">$ $</text>\n",
                 &[
@@ -119,6 +133,20 @@ impl Layers {
         }
     }
 
+    /// Writes the mode and the number of a request of a mark log beside the start of its bar.
+    pub fn label_request(&mut self, layout: &Layout, bar: &LockBar) {
+        let span = &bar.span;
+        self.labels.write(
+            "<text x=\"$\" y=\"$\" class=\"label to-right\">$ $</text>\n",
+            &[
+                Number(layout.bar_x(bar).saturating_add(COLUMN_WIDTH)),
+                Number(layout.y(span.asked.row).saturating_add(4)),
+                Text(span.mode.word()),
+                Number(span.number),
+            ],
+        );
+    }
+
     /// Draws a cross at the end of the bar of a request that is withdrawn, if it has a row.
     fn draw_withdrawal(&mut self, layout: &Layout, bar: &LockBar) {
         let span = &bar.span;
@@ -127,7 +155,7 @@ impl Layers {
             && span.entered.is_none()
             && ended.row > 0
         {
-            let x = layout.column_x(span.key.node, bar.column);
+            let x = layout.bar_x(bar);
             self.begin_phase(&span.key, "gives up");
             self.shapes.put(b"</title>");
             self.draw_cross(Point {
@@ -138,7 +166,7 @@ impl Layers {
         }
     }
 
-    /// Draws the bar of a lock, phase by phase, and names it.
+    /// Draws the bar of a lock, phase by phase.
     pub fn draw_lock_bar(&mut self, layout: &Layout, bar: &LockBar) {
         let span = &bar.span;
         let (asked, requested, entered) = (Some(span.asked), span.requested, span.entered);
@@ -146,6 +174,5 @@ impl Layers {
         self.draw_phase(layout, bar, WAITING, requested, entered);
         self.draw_phase(layout, bar, INSIDE, entered, span.ended);
         self.draw_withdrawal(layout, bar);
-        self.name_lock_bar(layout, bar);
     }
 }

@@ -20,6 +20,8 @@ pub struct LockSpan {
     pub asked: Moment,
     /// When its request got a number: until then the client is queued.
     pub requested: Option<Moment>,
+    /// That number, or 0 before.
+    pub number: u64,
     pub entered: Option<Moment>,
     /// When it gave the name back, or gave up.
     pub ended: Option<Moment>,
@@ -44,6 +46,7 @@ impl LockSpans {
             mode,
             asked,
             requested: None,
+            number: 0,
             entered: None,
             ended: None,
         };
@@ -74,7 +77,10 @@ impl LockSpans {
             return;
         };
         match mark {
-            Mark::Requested(_) => span.requested = Some(now),
+            Mark::Requested(_) => {
+                span.requested = Some(now);
+                span.number = entry.stamp.seq;
+            }
             Mark::Entered(_) => span.entered = Some(now),
             Mark::Left(_) | Mark::Withdrawn(_) => {}
         }

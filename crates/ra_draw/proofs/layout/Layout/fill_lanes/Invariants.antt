@@ -1,5 +1,5 @@
 use Rattle.std.proofs.Common.{◌≡◌}
-use Rattle.ra_draw.proofs.layout.Layout.fill.Given as goal
+use Rattle.ra_draw.proofs.layout.Layout.fill_lanes.Given as goal
 
 -- how many nodes there are stays as it is
 abbrev pub invariant-loop-node : goal.invariant-loop-node
