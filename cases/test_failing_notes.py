@@ -53,7 +53,7 @@ BROKEN = [
 ]
 
 # The note on the line of a trace that is not a mark.
-NO_MARK = "ra: line 1, 'trace 2 2 0': this looks like a trace, which ra check reads without --marks\n"
+NO_MARK = "ra: line 1, 'trace 2 2 0': this looks like a trace, which is read without --marks\n"
 # The note on the end of the log of one request.
 ONE_LEFT = "ra: the log ends with 1 request waiting: "
 ONE_LEFT += "client 1 at node 1 has waited for 'r' (X) since line 1: no client blocks it\n"

@@ -2,6 +2,7 @@
 pub mod command_rows;
 pub mod helps;
 pub mod input_kind;
+pub mod near_words;
 pub mod option_rows;
 pub mod search;
 

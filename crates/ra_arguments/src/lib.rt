@@ -12,7 +12,7 @@ mod usage_fault;
 
 pub use cluster_output::ClusterOutput;
 pub use command::{Command, CommandLine, command_of, read_command_line};
-pub use command_line::command_rows::command_named;
+pub use command_line::command_rows::{command_named, command_near};
 pub use command_line::helps::{
     ANSWER_HELP, CHECK_HELP, CLUSTER_HELP, DRAW_HELP, NODE_HELP, SETTLE_HELP, SIM_HELP,
     STATUS_HELP, SUMMARY_HELP,

@@ -17,7 +17,7 @@ pub const TAB: &str = "a tab does not separate fields: fields are separated by o
 const KINDS: &str = "expected request or reply after deliver, lose, repeat or send";
 
 /// The hint for a line of a trace in a mark log.
-const TRACE: &str = "this looks like a trace, which ra check reads without --marks";
+const TRACE: &str = "this looks like a trace, which is read without --marks";
 
 /// The hints for the first line of a trace and for a line of a mark log.
 pub const AT_BOTH: &[Hint] = &[
@@ -54,7 +54,7 @@ pub const AT_FIRST: &[Hint] = &[
     ),
     (
         "request",
-        "this looks like the output of ra sim without --trace: ra check --marks reads its marks, without the six totals",
+        "this looks like marks, which are read with --marks, without the six totals of ra sim",
     ),
     ("finished ", SURVEY),
     ("stuck ", SURVEY),

@@ -1,7 +1,9 @@
 //! What there is to say of the place in what was read that a note is about, and otherwise of the cause alone.
 use crate::command_notes::of_performance;
 use crate::note_source::{JudgedText, NoteSource};
-use crate::note_texts::{UNEXPLAINED, cause_text, cluster_text, mark_cause_text, text_cause_text};
+use crate::note_texts::{
+    EMPTY_TRACE, NO_BOOKS, UNEXPLAINED, cause_text, cluster_text, mark_cause_text, text_cause_text,
+};
 use crate::notice::Notice;
 use crate::run_notes::unfinished::unfinished_note;
 use crate::script_notes::choosing::choices_note;
@@ -145,6 +147,14 @@ fn cause_in(alloc: Global, text: JudgedText<'_>, cause: Cause, due: Option<Line>
     }
 }
 
+/// Returns whether nothing was read.
+fn is_empty(text: JudgedText<'_>) -> bool {
+    match text {
+        JudgedText::Checked(Some(text)) | JudgedText::Drawn(text) => text.is_empty(),
+        JudgedText::Checked(None) => false,
+    }
+}
+
 /// Returns what there is to say about the wrong line of a text. The cause alone is `said`.
 fn line_notice(
     alloc: Global,
@@ -171,6 +181,9 @@ pub fn trace_notice(
     cause: Cause,
     due: Option<Line>,
 ) -> Notice {
+    if is_empty(text) {
+        return Notice::Text(EMPTY_TRACE);
+    }
     let why = cause_in(alloc, text, cause, due);
     line_notice(alloc, text, line, why, cause_text(cause))
 }
@@ -183,6 +196,9 @@ pub fn log_notice(alloc: Global, text: JudgedText<'_>, line: u64, cause: MarkCau
 
 /// Returns what there is to say about a text of books that does not settle, by its wrong line.
 pub fn unsettled_notice(alloc: Global, books: &[u8], line: u64, cause: TextCause) -> Notice {
+    if books.is_empty() {
+        return Notice::Text(NO_BOOKS);
+    }
     let text = text_cause_text(cause);
     placed(
         unsettled_note(alloc, books, line, cause),

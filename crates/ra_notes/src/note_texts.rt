@@ -33,6 +33,16 @@ pub const BOOKS_TOO_LONG: &str = "standard input has more than 1073741824 bytes"
 pub const TOO_LONG: &str =
     "standard input has more than 4096 lines to draw: choose a part with --from and --to";
 
+/// What is said of an input without a byte that has to be a trace.
+pub const EMPTY_TRACE: &str = "standard input is empty: expected a trace";
+
+/// What is said of an input without a byte that has to be books.
+pub const NO_BOOKS: &str = "standard input is empty: expected one book of each node";
+
+/// What is said of a line that has a carriage return before its line feed.
+pub const HAS_RETURN: &str =
+    "this line ends with a carriage return and a line feed, but each line must end with a line feed alone";
+
 /// What is said of the first line of a book if it is not one.
 pub const NO_BOOK: &str =
     "not the first line of a book: expected book 1 NODE NODES START, or book 2 in its place, with NODE 1 to NODES, NODES 1 to 64 and START 0 to 2^64 - 1, separated by single spaces and ended by a line feed alone";

@@ -1,7 +1,7 @@
 //! What is said about the wrong line of a text of books.
 use crate::book_openings::Openings;
 use crate::input_places::PlaceNote;
-use crate::note_texts::text_cause_text;
+use crate::note_texts::{HAS_RETURN, text_cause_text};
 use crate::refused_event::refused_event;
 use crate::refused_notes::push_refused;
 use ra_book::BookKind;
@@ -97,6 +97,13 @@ pub fn unsettled_note(alloc: Global, text: &[u8], number: u64, cause: TextCause)
     let is_told = if let (line, Some(_)) = cut(rest, b'\n') {
         note.push(", ");
         note.quoted(line);
+        if let TextCause::Line = cause
+            && let [.., b'\r'] = line
+        {
+            note.push(": ");
+            note.push(HAS_RETURN);
+            return note.finish();
+        }
         let another = FirstLine::parse(line);
         if another.is_some() {
             is_of_books && push_books(&mut note, &openings, &another)

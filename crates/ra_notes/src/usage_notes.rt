@@ -4,10 +4,13 @@ use crate::given_options::is_given;
 use crate::notice::Notice;
 use clap::Error as ParseError;
 use clap::error::ErrorKind;
-use ra_arguments::{UsageCause, UsageFault, command_named, values_of};
+use ra_arguments::{UsageCause, UsageFault, command_named, command_near, values_of};
 use ra_schedule::read_choices;
 use ra_text::Note;
 use std::alloc::Global;
+
+/// The word that other programs take for a command that prints help.
+const HELP: &str = "help";
 
 /// Returns an option that takes a value, with the argument after it, if the parser takes that argument for an option
 /// though it is not one, such as a negative number. Otherwise returns `None`.
@@ -101,10 +104,14 @@ fn push_said(note: &mut Note, said: &str) {
     }
 }
 
-/// Adds where to read more.
+/// Adds where to read more. The word after `help` names a command, too.
 fn push_see(note: &mut Note, arguments: &[String]) {
     note.push("; see ra ");
-    if let Some(name) = command_named(arguments) {
+    let named = match arguments {
+        [_, word, ..] if word.as_str() == HELP => command_named(&arguments[1..]),
+        _ => command_named(arguments),
+    };
+    if let Some(name) = named {
         note.push(name);
         note.push(" ");
     }
@@ -116,20 +123,36 @@ pub fn is_choice(alloc: Global, argument: &str) -> bool {
     !argument.is_empty() && read_choices(alloc, argument).is_ok()
 }
 
+/// Adds the command that an unknown one may mean, if the parser names none.
+fn push_near(note: &mut Note, said: &str) {
+    if cut_at(said, "tip: ").is_some() {
+        return;
+    }
+    let Some((word, _)) = between(said, "unrecognized subcommand '", "'") else {
+        return;
+    };
+    if let Some(name) = command_near(word) {
+        note.push("; a similar subcommand exists: '");
+        note.push(name);
+        note.push("'");
+    }
+}
+
 /// Adds what the parser says, or which numbers an option takes, and what an unexpected argument may be that is not an
-/// option: one of the choices, which are one argument, or a file.
+/// option: one of the choices, which are one argument, or a file. An unknown command may be nearly a known one.
 fn push_parsed(alloc: Global, note: &mut Note, arguments: &[String], said: &str) {
     if push_value(note, arguments, said) {
         return;
     }
     push_said(note, said);
     let Some(name) = command_named(arguments) else {
+        push_near(note, said);
         return;
     };
     let Some((argument, _)) = between(said, "unexpected argument '", "' found") else {
         return;
     };
-    if argument.starts_with('-') {
+    if argument.starts_with('-') || argument == HELP {
         return;
     }
     if is_given(arguments, "choices") && is_choice(alloc, argument) {

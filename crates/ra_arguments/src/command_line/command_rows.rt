@@ -5,6 +5,7 @@ ghost use Rattle.ra_arguments.specs.Asked.{IsParsed};
 ghost use Rattle.ra_arguments.specs.Helping.{command_called, command_in};
 ghost use Rattle.ra_arguments.specs.OptionTable.{IsOfRow, all_labels, label_of_row};
 
+use crate::command_line::near_words::is_near;
 use crate::command_line::option_rows::{option_of, options_of};
 use clap::{ArgMatches, Command, Error as ParseError};
 use std::alloc::{AllocError, Global};
@@ -98,6 +99,16 @@ pub fn row_named(arguments: &[String]) -> Option<CommandRow<'static>>
 pub fn command_named(arguments: &[String]) -> Option<&'static str> {
     let row = row_named(arguments)?;
     Some(row.name)
+}
+
+/// Returns a command whose name is nearly this word, or `None`. It does not allocate.
+pub fn command_near(word: &str) -> Option<&'static str> {
+    for row in all_rows() {
+        if is_near(word.as_bytes(), row.name.as_bytes()) {
+            return Some(row.name);
+        }
+    }
+    None
 }
 
 /// Returns the commands, in the order of help.
