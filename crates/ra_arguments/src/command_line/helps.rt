@@ -141,13 +141,16 @@ wrong line and the cause:
   Sends        the messages are not those that the step sends
   Marks        the marks are not those of the step
   Table        the lock table does not allow the mark
+A node's own request raises its highest number. In the algorithm as published in
+1981 it does not, so some of its runs are invalid here.
 
 Example: ra sim --trace < script.toml | ra check
 
 With --marks, read a mark log: a line for each request, grant, release and
 withdrawal of any lock service. Each has a node (1 to 64), a client (0 to
 2^32 - 1), a name, a mode and a number (1 to 2^64 - 1). The number of a request
-must be above every number granted for the name so far.
+must be above every number granted for the name so far. Requests of two nodes
+may have one number, so a fencing token is the number and the node.
   request 1 1 r X 1
   enter 1 1 r X 1
   leave 1 1 r X 1
