@@ -102,13 +102,13 @@ class Ends(RaTest):
     def test_each_client_that_waits_is_known(self):
         waits = [f"client 7 at node 1 has waited for 'r{it}' (X) since line {it + 1}: no client blocks it" for it in range(4)]
         for count in (4, 70_000):
-            self.expect_log(count, f": {'; '.join(waits)}")
+            self.expect_log(count, "".join(f"\nra: {it}" for it in waits))
 
     def test_what_came_long_before_the_end_is_said(self):
         done = "".join(f"request 2 8 r X {it}\nenter 2 8 r X {it}\nleave 2 8 r X {it}\n" for it in range(1, 4000))
         given = f"request 1 7 a X 1\n{done}request 3 9 a X 2\n"
-        note = "ra: the log ends with 2 requests waiting: client 7 at node 1 has waited for 'a' (X) since line 1: "
-        note += "no client blocks it; client 9 at node 3 has waited for 'a' (X) since line 11999: "
+        note = "ra: the log ends with 2 requests waiting\nra: client 7 at node 1 has waited for 'a' (X) since line 1: "
+        note += "no client blocks it\nra: client 9 at node 3 has waited for 'a' (X) since line 11999: "
         note += "client 7 at node 1 asked for 'a' (X) in line 1\n"
         self.assertGreater(len(given), 65_537)
         self.expect(words="check --marks", input=given, output="valid\nrequests 4001\ngrants 3999\n", note=note)

@@ -55,7 +55,7 @@ BROKEN = [
 # The note on the line of a trace that is not a mark.
 NO_MARK = "ra: line 1, 'trace 2 2 0': this looks like a trace, which is read without --marks\n"
 # The note on the end of the log of one request.
-ONE_LEFT = "ra: the log ends with 1 request waiting: "
+ONE_LEFT = "ra: the log ends with 1 request waiting\nra: "
 ONE_LEFT += "client 1 at node 1 has waited for 'r' (X) since line 1: no client blocks it\n"
 # The note on the line of books by which a frame comes that was not sent.
 UNSENT = "ra: line 3, 'receive 02020002000100000000000000000100000000000000020172', in the book of node 1, "

@@ -24,8 +24,8 @@ WRONG_MARKS = [
     (
         ["request 1 8 r X 5001", "request 2 9 r X 5002", "enter 2 9 r X 5002"],
         "Earlier",
-        "a conflicting request waits for the name with a lower number, or with the same number at a lower node: "
-        "client 8 at node 1 asked for 'r' (X) in line 15001",
+        "an earlier request that conflicts waits for the name: "
+        "client 8 at node 1 asked for 'r' (X) in line 15001 and goes first, since number 5001 is below 5002",
     ),
     (
         ["request 1 8 r X 5001", "request 1 9 r X 5002"],
@@ -208,7 +208,8 @@ class FarLines(SaidOfLines):
         again = "; a copy needs a repeat line before that"
         for count in TAKEN:
             came = count * ["repeat request 1 2 r X 1", "deliver request 1 2 r X 1"]
-            self.expect_not_under_way(begins + came + ["deliver reply 2 1 s 1"], "it was never sent")
+            near = f"it was never sent, but reply 2 1 r 1 was, by the step in line {3 + 2 * count}"
+            self.expect_not_under_way(begins + came + ["deliver reply 2 1 s 1"], near)
             late = count * ["repeat request 2 1 s X 1", "lose request 2 1 s X 1"]
             asked = ["deliver request 1 2 r X 1", "ask 2 2 s X", "request 2 2 s X 1"]
             lines = begins + asked + late + ["deliver request 1 2 r X 1"]
@@ -264,12 +265,13 @@ class LongestTexts(SaidOfLines):
     def test_what_is_left_of_the_longest_trace_is_said(self):
         begins = ["trace 2 2 0", "ask 1 1 r X", "request 1 1 r X 1"]
         lines, count = self.full(begins, "repeat request 1 2 r X 1", ["end"])
-        waits = "client 1 at node 1 has waited for 'r' (X) since line 3: no client blocks it, but a message is under way"
+        waits = "client 1 at node 1 has waited for 'r' (X) since line 3: no client blocks it, "
+        waits += "but its REQUEST to node 2, sent in line 2, is under way"
         self.expect(
             words="check",
             input="".join(f"{line}\n" for line in lines),
             output="valid\nrequests 1\nmessages 1\n",
-            note=f"ra: the trace ends with {count + 1} messages under way, 1 request waiting: {waits}\n",
+            note=f"ra: the trace ends with {count + 1} messages under way, 1 request waiting\nra: {waits}\n",
         )
 
     def test_a_line_after_the_end_of_the_longest_trace_is_shown(self):

@@ -207,7 +207,7 @@ class Growth(PreloadTest):
     def test_growth_of_a_note_on_the_end_of_a_trace(self):
         counts = "ra: the trace ends with 1 client queued, 1 request holding"
         queued = "client 2 at node 1 has been queued for 'r' (S) since line 5: client 1 at node 1 has held 'r' (X) since line 4"
-        note = f"{counts}: {queued}; client 1 at node 1 has held 'r' (X) since line 4\n"
+        note = f"{counts}\nra: {queued}\nra: client 1 at node 1 has held 'r' (X) since line 4\n"
         less = [f"{counts}; there was no room to name them\n", NO_MORE]
         self.expect_growth("check", TEXTS["A_QUEUED_TRACE"], "valid\nrequests 1\nmessages 0\n", 0, note, less)
 

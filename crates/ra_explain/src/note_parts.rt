@@ -3,6 +3,9 @@ use itoa::Integer;
 use ra_stamp::{Mode, Name};
 use ra_text::Note;
 
+/// What comes between two lines of a note: each line begins with `ra: `.
+pub const NEXT_LINE: &str = "\nra: ";
+
 /// Adds a text and the number after it.
 pub fn push_numbered<N: Integer>(note: &mut Note, text: &str, number: N) {
     note.push(text);

@@ -1,6 +1,8 @@
 //! What is said of a line of a trace or a mark log, and of its end.
+pub mod awaited_replies;
 pub mod blocked_requests;
 pub mod blockers;
+pub mod deadlock;
 pub mod due_mark;
 pub mod kept_marks;
 pub mod line_cause;
@@ -9,12 +11,14 @@ pub mod line_fault;
 pub mod line_field;
 pub mod line_form;
 pub mod line_text;
+pub mod near_miss;
 pub mod not_under_way;
 pub mod obstacle;
 pub mod open_request;
 pub mod open_requests;
 pub mod refused_step;
 pub mod replay;
+pub mod sent_messages;
 pub mod table_steps;
 pub mod text_end;
 pub mod text_line;

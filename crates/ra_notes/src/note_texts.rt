@@ -103,7 +103,7 @@ const MARK_CAUSES: [&str; 7] = [
     "the number of this request is not above every number granted for the name",
     "no such request waits for the name",
     "a conflicting request holds the name",
-    "a conflicting request waits for the name with a lower number, or with the same number at a lower node",
+    "an earlier request that conflicts waits for the name",
     "no such request holds the name",
 ];
 

@@ -44,8 +44,9 @@ pub fn push_blockers<T: TellsBlocker>(
     after > 0
 }
 
-/// Returns the text for a request that waits at the end of a run although no other one blocks it. These are how many
-/// messages are under way then, and how many were lost: by the main theorem, one of these is what it lacks.
+/// Returns the text for a request that waits at the end of a run although no other one blocks it, if nothing more
+/// precise is known. These are how many messages are under way then, and how many were lost: by the main theorem, one
+/// of these is what it lacks.
 pub fn want_text(under_way: u128, lost: u128) -> &'static str {
     if under_way == 0 {
         ": no client blocks it, but a message was lost"

@@ -3,7 +3,7 @@ use crate::note_parts::push_numbered;
 use crate::trace_notes::obstacle::push_obstacle;
 use crate::trace_notes::open_request::{OpenRequest, Stage};
 use crate::trace_notes::open_requests::OpenRequests;
-use crate::trace_notes::replay::{Granted, Replay};
+use crate::trace_notes::replay::{NumberLine, Replay, keep_greatest};
 use crate::trace_notes::text_end::push_log_end;
 use crate::trace_notes::text_line::TextLine;
 use ra_stamp::{Entry, Mark, Memory, Name};
@@ -22,7 +22,7 @@ struct NameMarks {
     /// The requests that wait or hold, in the order in which they were made.
     open: Vec<OpenRequest>,
     /// The greatest number that was granted.
-    granted: Option<Granted>,
+    granted: Option<NumberLine>,
     /// The last entry that each node released.
     released: Vec<EntryLine>,
     /// The last entry that each node withdrew.
@@ -117,10 +117,7 @@ impl NameMarks {
                 open.since = line;
             }
         }
-        let number = entry.stamp.seq;
-        if !matches!(self.granted, Some(granted) if granted.number >= number) {
-            self.granted = Some(Granted { number, line });
-        }
+        keep_greatest(&mut self.granted, entry.stamp.seq, line);
     }
 }
 
@@ -276,7 +273,7 @@ impl KeptMarks {
             marks.add_open(&mut open);
         }
         open.is_whole = open.is_whole && self.is_whole;
-        push_log_end(&mut note, &open);
+        push_log_end(self.alloc, &mut note, &open);
         note.finish()
     }
 }

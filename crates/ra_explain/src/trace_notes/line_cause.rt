@@ -31,6 +31,8 @@ fn push_after(alloc: Global, note: &mut Note, line: &TextLine<'_>, cause: LineCa
         LineCause::Due(Some(Line::Sent(_))) => line.before,
         LineCause::Due(None) if line.bytes.starts_with(b"send ") => line.before,
         LineCause::Due(Some(Line::Marked(_))) if line.bytes.starts_with(b"send ") => line.before,
+        // And they tell which number a node has met.
+        LineCause::Due(Some(Line::Marked(_))) if line.bytes.starts_with(b"request ") => line.before,
         LineCause::Due(_) | LineCause::Trace(Cause::Marks | Cause::Sends) => b"",
         _ => line.before,
     };
@@ -39,7 +41,9 @@ fn push_after(alloc: Global, note: &mut Note, line: &TextLine<'_>, cause: LineCa
         LineCause::Due(due) => push_due(alloc, note, &replay, line.bytes, &due),
         LineCause::Trace(Cause::Marks | Cause::Sends) => note.push(other),
         LineCause::Trace(Cause::Refused) => push_refused(note, line, &replay, other),
-        LineCause::Trace(Cause::NotUnderWay) => push_not_under_way(note, line, &replay, other),
+        LineCause::Trace(Cause::NotUnderWay) => push_not_under_way(
+            alloc, note, line, &replay, other,
+        ),
         LineCause::Trace(_) => push_obstacle(alloc, note, line, &replay, None, other),
         LineCause::Marks(why) => push_obstacle(alloc, note, line, &replay, Some(why), other),
     }
@@ -48,7 +52,7 @@ fn push_after(alloc: Global, note: &mut Note, line: &TextLine<'_>, cause: LineCa
 /// Returns the note on the first wrong line of a trace or of a mark log, the one with the number `line`, counted from
 /// 1. The note quotes the line, and says what is wrong with it, which is one of these:
 ///
-/// - what is in the way of a mark, or which send or mark is due;
+/// - what is in the way of a mark, or which send or mark is due, and which number a node has met;
 /// - whose REPLY a client still awaits;
 /// - why a node refuses a step, or why a message is not under way.
 ///

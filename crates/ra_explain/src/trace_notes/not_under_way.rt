@@ -1,19 +1,34 @@
 //! Why a message is not under way at a line of a trace.
 use crate::note_parts::{push_number_in, push_numbered};
+use crate::trace_notes::due_mark::push_message;
 use crate::trace_notes::line_form::version_of;
+use crate::trace_notes::near_miss::NearMiss;
 use crate::trace_notes::open_request::OpenRequest;
 use crate::trace_notes::open_requests::Sought;
 use crate::trace_notes::replay::Replay;
+use crate::trace_notes::sent_messages::watch_lines;
 use crate::trace_notes::text_line::TextLine;
 use ra_stamp::Message;
 use ra_text::Note;
 use ra_trace::Version;
+use std::alloc::Global;
 
-/// What is said about a message that had no reason to be sent.
-const NEVER_SENT: &str = "it was never sent";
+/// Adds that a message was never sent after these lines of a trace, and the last message that they send and that
+/// differs from it in one thing alone, if there is one. They are made once more for that.
+fn push_never_sent(alloc: Global, note: &mut Note, lines: &[u8], message: &Message) {
+    note.push("it was never sent");
+    let mut near = NearMiss::new(*message);
+    if watch_lines(alloc, lines, &mut near)
+        && let Some((sent, line)) = &near.found
+    {
+        note.push(", but ");
+        push_message(note, sent);
+        push_numbered(note, " was, by the step in line ", *line);
+    }
+}
 
-/// Adds why a REPLY was never sent, although this request waits for it.
-fn push_awaited(note: &mut Note, replay: &Replay, reply: &Message, answered: &OpenRequest) {
+/// Adds why a REPLY was never sent, although this request waits for it. Returns whether that is known.
+fn push_awaited(note: &mut Note, replay: &Replay, reply: &Message, answered: &OpenRequest) -> bool {
     let (from, to) = (reply.from(), reply.to());
     let own = replay.open.next_of(0, &Sought::AtNode(from, reply.name()));
     match (replay.came, own) {
@@ -32,14 +47,22 @@ fn push_awaited(note: &mut Note, replay: &Replay, reply: &Message, answered: &Op
         (None, _) if from != to && from.get() <= replay.nodes.unwrap_or(0) => {
             push_numbered(note, "its request has not come to node ", from.get());
         }
-        _ => note.push(NEVER_SENT),
+        _ => return false,
     }
+    true
 }
 
 /// Adds why a message that a line of a trace delivers, loses or repeats is not under way: in which line it was last
 /// delivered or lost, or that it was never sent. For a REPLY to a request that waits or holds, it adds why it was never
-/// sent. If the line has no message, it adds `other`.
-pub fn push_not_under_way(note: &mut Note, line: &TextLine<'_>, replay: &Replay, other: &str) {
+/// sent. Of another message it adds which one was sent that is nearly the same. If the line has no message, it adds
+/// `other`.
+pub fn push_not_under_way(
+    alloc: Global,
+    note: &mut Note,
+    line: &TextLine<'_>,
+    replay: &Replay,
+    other: &str,
+) {
     let Some(message) = &replay.message else {
         note.push(other);
         return;
@@ -61,9 +84,9 @@ pub fn push_not_under_way(note: &mut Note, line: &TextLine<'_>, replay: &Replay,
     if let Message::Reply { to, name, seq, .. } = message
         && let Some(request) = replay.open.next_of(0, &Sought::AtNode(*to, *name))
         && request.entry.stamp.seq == *seq
+        && push_awaited(note, replay, message, request)
     {
-        push_awaited(note, replay, message, request);
-    } else {
-        note.push(NEVER_SENT);
+        return;
     }
+    push_never_sent(alloc, note, line.before, message);
 }

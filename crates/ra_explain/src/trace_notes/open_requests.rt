@@ -1,6 +1,6 @@
 //! Which clients wait, are queued and hold after lines of a trace or of a mark log, or after marks.
 use crate::trace_notes::open_request::{OpenRequest, Stage};
-use ra_stamp::{Entry, Mark, Name, NodeId, Stamp};
+use ra_stamp::{Entry, Mark, Mode, Name, NodeId, Stamp};
 use ra_trace::Line;
 use ra_world::Step;
 use std::alloc::Global;
@@ -74,24 +74,25 @@ impl OpenRequests {
                         mode,
                     },
                 ),
-            ) => {
-                let queued = Entry {
-                    name: *name,
-                    stamp: Stamp {
-                        seq: 1,
-                        node: *node,
-                    },
-                    client: *client,
-                    mode: *mode,
-                };
-                self.keep(&queued, Stage::Queued, number);
-            }
+            ) => self.take_ask((*node, *client, *name), *mode, number),
             Some(Line::Stepped(Step::Cancel { node, client, name })) => {
                 self.take_cancel(*node, *client, name);
             }
             Some(Line::Marked(mark)) => self.take_mark(mark, number),
             _ => {}
         }
+    }
+
+    /// Takes that a client asks in the line with this number.
+    pub fn take_ask(&mut self, asker: ClientKey, mode: Mode, number: u64) {
+        let (node, client, name) = asker;
+        let queued = Entry {
+            name,
+            stamp: Stamp { seq: 1, node },
+            client,
+            mode,
+        };
+        self.keep(&queued, Stage::Queued, number);
     }
 
     /// Takes the mark in the line with this number. A release and a withdrawal show in their marks.

@@ -9,12 +9,18 @@ use std::alloc::Global;
 /// The numbers of nodes, and 0.
 const NUMBERS: usize = 65;
 
-/// A number that was granted for a name.
+/// A number of a name, and the line from which it is known, counted from 1.
 #[derive(Clone, Copy)]
-pub struct Granted {
+pub struct NumberLine {
     pub number: u64,
-    /// The line of its mark, counted from 1.
     pub line: u64,
+}
+
+/// Keeps a number if it is above the greatest one so far.
+pub fn keep_greatest(greatest: &mut Option<NumberLine>, number: u64, line: u64) {
+    if !matches!(greatest, Some(kept) if number <= kept.number) {
+        *greatest = Some(NumberLine { number, line });
+    }
 }
 
 /// What the lines before a wrong line of a trace say of the wrong line.
@@ -26,16 +32,18 @@ pub struct Replay {
     pub step_at: u64,
     /// Which clients wait, are queued and hold after these lines.
     pub open: OpenRequests,
-    /// The mark in the wrong line, if there is one. The next five fields are about its entry.
+    /// The mark in the wrong line, if there is one. The next six fields are about its entry.
     pub mark: Option<Mark>,
     /// The greatest number that was granted for its name.
-    pub granted: Option<Granted>,
+    pub granted: Option<NumberLine>,
     /// The line in which it was released.
     pub released_at: Option<u64>,
     /// The line in which it was withdrawn.
     pub withdrawn_at: Option<u64>,
     /// The last entry that its node released on its name, and the line of the release.
     pub released: Option<(Entry, u64)>,
+    /// The highest number that its node has met for its name, from START or from requests.
+    pub met: Option<NumberLine>,
     /// For each number of a node, whether a REPLY of that node to the request of the mark was delivered.
     replied: [bool; NUMBERS],
     /// The message that the wrong line delivers, loses or repeats, if it does.
@@ -58,6 +66,7 @@ impl Replay {
             released_at: None,
             withdrawn_at: None,
             released: None,
+            met: None,
             replied: [false; NUMBERS],
             message,
             taken: None,
@@ -95,7 +104,10 @@ impl Replay {
             self.step_at = number;
         }
         match &line {
-            Some(Line::First { nodes, .. }) => self.nodes = Some(nodes.get()),
+            Some(Line::First { nodes, start, .. }) => {
+                self.nodes = Some(nodes.get());
+                keep_greatest(&mut self.met, *start, number);
+            }
             Some(Line::Stepped(Step::Deliver(message))) => self.take_message(
                 message, number, false,
             ),
@@ -111,6 +123,7 @@ impl Replay {
     /// - If the wrong line takes a REPLY, and this line delivers the REQUEST that it answers: the REQUEST came in this
     ///   line.
     /// - If the wrong line has a mark, and this line delivers a REPLY to its request: that node has replied.
+    /// - If it delivers a REQUEST for the name of the mark to its node: the node has met the number.
     fn take_message(&mut self, message: &Message, number: u64, is_lost: bool) {
         if let Some(sought) = self.message {
             if *message == sought {
@@ -137,6 +150,12 @@ impl Replay {
         } else if !is_lost && let Some(mark) = &self.mark {
             let entry = mark.entry();
             let from = message.from();
+            if let Message::Request { to, name, seq, .. } = *message
+                && to == entry.stamp.node
+                && name == entry.name
+            {
+                keep_greatest(&mut self.met, seq, number);
+            }
             let reply = Message::Reply {
                 from,
                 to: entry.stamp.node,
@@ -152,7 +171,7 @@ impl Replay {
     }
 
     /// Notes what the mark in the line with this number says of the mark in the wrong line: a grant for the same name,
-    /// a release of it by the same node, or that the very request was withdrawn.
+    /// a request or a release of it by the same node, or that the very request was withdrawn.
     fn take_mark(&mut self, mark: &Mark, number: u64) {
         let Some(subject) = self.mark else {
             return;
@@ -163,12 +182,10 @@ impl Replay {
             return;
         }
         match mark {
-            Mark::Entered(_) if self.is_greatest(made.stamp.seq) => {
-                self.granted = Some(Granted {
-                    number: made.stamp.seq,
-                    line: number,
-                });
+            Mark::Requested(_) if made.stamp.node == entry.stamp.node => {
+                keep_greatest(&mut self.met, made.stamp.seq, number);
             }
+            Mark::Entered(_) => keep_greatest(&mut self.granted, made.stamp.seq, number),
             Mark::Left(_) if made.stamp.node == entry.stamp.node => {
                 if *made == entry {
                     self.released_at = Some(number);
@@ -177,14 +194,6 @@ impl Replay {
             }
             Mark::Withdrawn(_) if *made == entry => self.withdrawn_at = Some(number),
             _ => {}
-        }
-    }
-
-    /// Returns whether this number is above each one that was granted before.
-    fn is_greatest(&self, number: u64) -> bool {
-        match self.granted {
-            Some(granted) => number > granted.number,
-            None => true,
         }
     }
 

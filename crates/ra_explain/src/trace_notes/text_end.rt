@@ -1,13 +1,16 @@
 //! What is left at the end of a trace or of a mark log.
-use crate::note_parts::push_number_in;
+use crate::note_parts::{NEXT_LINE, push_number_in};
+use crate::trace_notes::awaited_replies::AwaitedReplies;
 use crate::trace_notes::blockers::{ByLine, MAX_CLIENTS, push_blockers, want_text};
+use crate::trace_notes::deadlock::push_deadlock;
 use crate::trace_notes::line_counts::LineCounts;
 use crate::trace_notes::line_form::version_of;
 use crate::trace_notes::open_request::{Stage, push_entry};
 use crate::trace_notes::open_requests::{OpenRequests, Sought};
 use crate::trace_notes::replay::Replay;
+use crate::trace_notes::sent_messages::watch_lines;
 use crate::trace_notes::withdrawals::WithdrawalScope;
-use ra_stamp::Memory;
+use ra_stamp::{Entry, Memory};
 use ra_text::Note;
 use std::alloc::Global;
 
@@ -23,34 +26,62 @@ struct LeftOver {
     holding: u64,
 }
 
-/// Adds the first clients at a stage, and what is in the way of those that wait or are queued: `want` if no other
-/// client is. Returns how many clients are named then, if this many are named before.
-fn push_clients(
-    note: &mut Note,
-    open: &OpenRequests,
-    stage: Stage,
-    before: u64,
-    want: &str,
-) -> u64 {
-    let (mut after, mut named) = (0, before);
+/// What is said of a request that waits although no other one is in its way.
+#[derive(Clone, Copy)]
+enum Lack<'a> {
+    /// Which REPLY it awaits, and otherwise this text.
+    Reply(&'a AwaitedReplies, &'static str),
+    /// Nothing more, since a mark log does not tell.
+    Unknown,
+}
+
+impl Lack<'_> {
+    /// Adds it.
+    fn push(&self, note: &mut Note, entry: &Entry) {
+        match self {
+            Lack::Reply(awaited, otherwise) => awaited.push(note, entry, otherwise),
+            Lack::Unknown => note.push(": no client blocks it"),
+        }
+    }
+}
+
+/// Adds the first clients at a stage, each on a line of its own, and what is in the way of those that wait or are
+/// queued, or what a request lacks if no other client is.
+fn push_clients(note: &mut Note, open: &OpenRequests, stage: Stage, lack: &Lack<'_>) {
+    let mut after = 0;
     for _ in 0..MAX_CLIENTS {
         let Some(request) = open.next_of(after, &Sought::At(stage)) else {
             break;
         };
-        note.push(if named == 0 { ": " } else { "; " });
+        note.push(NEXT_LINE);
         let entry = &request.entry;
         push_entry(note, entry, stage.done(), " since line ", request.since);
         let in_the_way = match stage {
             Stage::Waits => Sought::Blocking(*entry),
             _ => Sought::AtNode(entry.stamp.node, entry.name),
         };
-        if !stage.is(Stage::Holds) && !push_blockers(note, open, &in_the_way, &ByLine) {
-            note.push(want);
+        if !stage.is(Stage::Holds)
+            && !push_blockers(note, open, &in_the_way, &ByLine)
+            && stage.is(Stage::Waits)
+        {
+            lack.push(note, entry);
         }
         after = request.since;
-        named = u64::saturating_add(named, 1);
     }
-    named
+}
+
+/// Adds those of the first requests that wait to which no other request is in the way.
+fn add_unblocked(open: &OpenRequests, awaited: &mut AwaitedReplies) {
+    let mut after = 0;
+    for _ in 0..MAX_CLIENTS {
+        let Some(request) = open.next_of(after, &Sought::At(Stage::Waits)) else {
+            break;
+        };
+        if open.next_of(0, &Sought::Blocking(request.entry)).is_none() {
+            awaited.add(&request.entry);
+        }
+        after = request.since;
+    }
 }
 
 /// Adds how many things are left and what they do, after this text, if any are left. Returns the text that comes before
@@ -79,37 +110,41 @@ fn push_counts(note: &mut Note, left: &LeftOver, is_trace: bool) {
     push_count(note, joint, left.holding, " request", "holding");
 }
 
-/// Adds the first clients at each stage, or that there was no memory for them. `want` is what is said of one that waits
-/// although no other client is in its way.
-fn push_stages(note: &mut Note, open: &OpenRequests, want: &str) {
+/// Adds whether clients wait for each other in a circle, and the first clients at each stage, or that there was no
+/// memory for them.
+fn push_stages(alloc: Global, note: &mut Note, open: &OpenRequests, lack: &Lack<'_>) {
     if open.is_whole {
-        let waiting = push_clients(note, open, Stage::Waits, 0, want);
-        let queued = push_clients(note, open, Stage::Queued, waiting, "");
-        push_clients(note, open, Stage::Holds, queued, "");
+        push_deadlock(alloc, note, open);
+        for stage in [Stage::Waits, Stage::Queued, Stage::Holds] {
+            push_clients(note, open, stage, lack);
+        }
     } else {
         note.push("; there was no room to name them");
     }
 }
-
-/// What is said of a request in a mark log that waits although no other one is in its way.
-const UNBLOCKED: &str = ": no client blocks it";
 
 /// Adds what is left at the end of a text: how much, and the first clients at each stage, or that there was no memory
 /// for them.
 fn push_end(alloc: Global, note: &mut Note, text: &[u8], left: &LeftOver) {
     let is_trace = version_of(text).is_some();
     push_counts(note, left, is_trace);
-    let want = if is_trace {
-        want_text(u128::from(left.under_way), u128::from(left.lost))
-    } else {
-        UNBLOCKED
-    };
     let replay = Replay::of(alloc, text, b"");
-    push_stages(note, &replay.open, want);
+    let Some(nodes) = replay.nodes else {
+        push_stages(alloc, note, &replay.open, &Lack::Unknown);
+        return;
+    };
+    let mut awaited = AwaitedReplies::new(alloc, nodes, "line ");
+    add_unblocked(&replay.open, &mut awaited);
+    if !awaited.is_empty() {
+        let is_known = watch_lines(alloc, text, &mut awaited);
+        awaited.refuse_if(!is_known);
+    }
+    let otherwise = want_text(u128::from(left.under_way), u128::from(left.lost));
+    push_stages(alloc, note, &replay.open, &Lack::Reply(&awaited, otherwise));
 }
 
 /// Adds what is left at the end of a mark log after which these requests wait and hold, if there are any.
-pub fn push_log_end(note: &mut Note, open: &OpenRequests) {
+pub fn push_log_end(alloc: Global, note: &mut Note, open: &OpenRequests) {
     let left = LeftOver {
         under_way: 0,
         lost: 0,
@@ -119,17 +154,19 @@ pub fn push_log_end(note: &mut Note, open: &OpenRequests) {
     };
     if left.waiting > 0 || left.holding > 0 {
         push_counts(note, &left, false);
-        push_stages(note, open, UNBLOCKED);
+        push_stages(alloc, note, open, &Lack::Unknown);
     }
 }
 
 /// Returns a note on what is left at the end of a text, which is a mark log, or a trace in which this many messages
 /// were sent. The note counts the messages that are under way and lost, and the requests that wait, are queued or hold,
-/// and leaves out each count that is zero. At each stage it names the first four clients and the lines since which they
-/// have been at it, and the clients that hold up those that wait or are queued. If there is no memory for the clients,
-/// it only counts. If a log has no mark, the note says so. At the end it names the first four requests that were
+/// and leaves out each count that is zero. If clients wait for each other in a circle, the next line names them. Then
+/// there is a line for each of the first four clients at each stage, with the line since which it has been at it, and
+/// with the clients that hold up one that waits or is queued. If no client holds it up, the line says which message is
+/// lost or under way; for that, the steps of the trace are made once more. If there is no memory for the clients, the
+/// note only counts. If a log has no mark, the note says so. At the end it names the first four requests that were
 /// withdrawn, and the clients that went on because of that. Returns `None` if nothing is left and no request was
-/// withdrawn. The cost is linear in the text. It does not allocate if it returns `None`.
+/// withdrawn. The cost is linear in the text, and that of the steps. It does not allocate if it returns `None`.
 ///
 /// # Errors
 ///
@@ -165,7 +202,7 @@ pub fn end_note(alloc: Global, text: &[u8], sent: u128) -> Result<Option<String>
         // A lost message is nothing left to do.
         push_end(alloc, &mut note, text, &left);
         if counts.withdrawals > 0 {
-            WithdrawalScope::WHOLE.push(alloc, &mut note, "; ", text, counts.withdrawals);
+            WithdrawalScope::WHOLE.push(alloc, &mut note, NEXT_LINE, text, counts.withdrawals);
         }
     } else if counts.withdrawals > 0 {
         WithdrawalScope::WHOLE.push(alloc, &mut note, "", text, counts.withdrawals);

@@ -82,7 +82,7 @@ const LOGS: &[(&str, Option<&str>)] = &[
     (
         "request 1 7 r X 1\nrequest 2 8 r S 2\n",
         Some(
-            "the log ends with 2 requests waiting: client 7 at node 1 has waited for 'r' (X) since line 1: no client blocks it; client 8 at node 2 has waited for 'r' (S) since line 2: client 7 at node 1 asked for 'r' (X) in line 1",
+            "the log ends with 2 requests waiting\nra: client 7 at node 1 has waited for 'r' (X) since line 1: no client blocks it\nra: client 8 at node 2 has waited for 'r' (S) since line 2: client 7 at node 1 asked for 'r' (X) in line 1",
         ),
     ),
     (TWO_WRITERS, None),
