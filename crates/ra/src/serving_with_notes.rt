@@ -89,6 +89,7 @@ pub fn serve_with_notes<T: Threads + Wait + Sync, R: BufRead, W: Write, N: Write
         fault: line.fault.as_ref(),
         last_seed: progress.last(),
         seen: reader.recorded().bytes(),
+        is_folder: reader.recorded().is_folder(),
         text: &text,
     };
     write_notes(alloc, &source, &outcome, notes);

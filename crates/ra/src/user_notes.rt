@@ -6,8 +6,8 @@ use ra_cli::{
     UNFINISHED,
 };
 use ra_notes::{
-    BOOKS_TOO_LONG, FrameCause, NO_BOOK, NO_INPUT, NO_MEMORY, NO_SEED_DONE, NO_WORD, NoteSource,
-    Notice, SEEDS_LEFT, Unanswered, cluster_notice, frame_notice, log_notice, of_check, of_choices,
+    BOOKS_TOO_LONG, FrameCause, NO_BOOK, NO_MEMORY, NO_SEED_DONE, NO_WORD, NoteSource, Notice,
+    SEEDS_LEFT, Unanswered, cluster_notice, frame_notice, log_notice, of_check, of_choices,
     of_command, of_drawing, of_end, perform_notice, range_note, script_notice, trace_notice,
     unfinished_notice, unsettled_notice, write_hints, write_shrunk_notes,
 };
@@ -65,20 +65,20 @@ fn refusal_of(alloc: Global, source: &NoteSource<'_>, refusal: CommandRefusal) -
         // Other commands have no node and no choices that could be refused.
         (CommandRefusal::Answer(_) | CommandRefusal::Choices(_), _) => Notice::Nothing,
         (CommandRefusal::Perform(why), _) => perform_notice(alloc, source, why),
-        (CommandRefusal::Check(why), _) => of_check(why),
-        (CommandRefusal::Draw(why), asked) => of_drawing(alloc, asked, why),
+        (CommandRefusal::Check(why), _) => of_check(source, why),
+        (CommandRefusal::Draw(why), _) => of_drawing(alloc, source, why),
         (CommandRefusal::Cluster(why) | CommandRefusal::Survey(why), _) => {
             of_script_run(alloc, source, why)
         }
-        (CommandRefusal::Settle(why), _) => of_settling(why),
-        (CommandRefusal::Node(why), _) => of_book(why),
+        (CommandRefusal::Settle(why), _) => of_settling(source, why),
+        (CommandRefusal::Node(why), _) => of_book(source, why),
     }
 }
 
 /// Returns what there is to say about a script that was not run, by threads or under many seeds.
 fn of_script_run(alloc: Global, source: &NoteSource<'_>, why: RunScriptError) -> Notice {
     match why {
-        RunScriptError::Read => Notice::Text(NO_INPUT),
+        RunScriptError::Read => source.no_input(),
         RunScriptError::Script(_) => script_notice(alloc, source.seen),
         RunScriptError::Cluster(fault) => cluster_notice(alloc, source.seen, fault),
         RunScriptError::Choice => Notice::Text(NO_WORD),
@@ -87,22 +87,22 @@ fn of_script_run(alloc: Global, source: &NoteSource<'_>, why: RunScriptError) ->
 }
 
 /// Returns what there is to say about books that were not settled.
-fn of_settling(why: SettleFault) -> Notice {
+fn of_settling(source: &NoteSource<'_>, why: SettleFault) -> Notice {
     match why {
-        SettleFault::Read => Notice::Text(NO_INPUT),
+        SettleFault::Read => source.no_input(),
         SettleFault::Limit => Notice::Text(BOOKS_TOO_LONG),
         SettleFault::Memory => Notice::Text(NO_MEMORY),
     }
 }
 
 /// Returns what there is to say about a book that was not answered.
-fn of_book(why: BookFault) -> Notice {
+fn of_book(source: &NoteSource<'_>, why: BookFault) -> Notice {
     match why {
         BookFault::Line => Notice::Line {
             line: 1,
             text: NO_BOOK,
         },
-        BookFault::Read => Notice::Text(NO_INPUT),
+        BookFault::Read => source.no_input(),
         BookFault::Write => Notice::Nothing,
     }
 }
@@ -118,7 +118,7 @@ fn of_answer(
     let cause = match why {
         AnswerError::BadCount => return range_note(alloc, "--nodes", nodes, NodeId::MAX),
         AnswerError::BadNode => return range_note(alloc, "--node", node, nodes),
-        AnswerError::Read => return Notice::Text(NO_INPUT),
+        AnswerError::Read => return source.no_input(),
         AnswerError::Memory => return Notice::Text(NO_MEMORY),
         AnswerError::Write => return Notice::Nothing,
         AnswerError::Line | AnswerError::Hex => FrameCause::Digits,

@@ -1,6 +1,7 @@
 //! What is said of a command that was not done, of arguments that cannot be read, and of output that failed.
+use crate::note_source::NoteSource;
 use crate::note_texts::{
-    NO_INPUT, NO_OUTPUT, NO_SPACE, NO_TEXT, NO_WORD, TOO_LONG, TOO_MANY_BYTES, TOO_MANY_TURNS,
+    LOG_TOO_LONG, NO_OUTPUT, NO_SPACE, NO_TEXT, NO_WORD, TOO_LONG, TOO_MANY_BYTES, TOO_MANY_TURNS,
     UNEXPLAINED,
 };
 use crate::notice::{NO_MEMORY, Notice, write_line};
@@ -95,9 +96,9 @@ fn first_no_choice(alloc: Global, text: &str) -> Option<&str> {
 }
 
 /// Returns what there is to say about a script that is not performed.
-pub fn of_performance(why: PerformError) -> Notice {
+pub fn of_performance(source: &NoteSource<'_>, why: PerformError) -> Notice {
     Notice::Text(match why {
-        PerformError::Read => NO_INPUT,
+        PerformError::Read => return source.no_input(),
         PerformError::Drive(DriveError::TurnLimit) => TOO_MANY_TURNS,
         PerformError::Script(_) | PerformError::Drive(_) => UNEXPLAINED,
         PerformError::Choice => NO_WORD,
@@ -107,10 +108,13 @@ pub fn of_performance(why: PerformError) -> Notice {
 }
 
 /// Returns what there is to say about a text that has no verdict.
-pub fn of_check(why: TraceError) -> Notice {
+pub fn of_check(source: &NoteSource<'_>, why: TraceError) -> Notice {
     Notice::Text(match why {
-        TraceError::Read => NO_INPUT,
-        TraceError::Limit => TOO_MANY_BYTES,
+        TraceError::Read => return source.no_input(),
+        TraceError::Limit => match source.asked {
+            Command::Task(Task::CheckMarks) => LOG_TOO_LONG,
+            _ => TOO_MANY_BYTES,
+        },
         TraceError::Memory => NO_MEMORY,
     })
 }
@@ -130,11 +134,11 @@ fn of_part(alloc: Global, asked: &Command<'_>, lines: u64) -> Notice {
 }
 
 /// Returns what there is to say about an input that is not drawn.
-pub fn of_drawing(alloc: Global, asked: &Command<'_>, why: DrawError) -> Notice {
+pub fn of_drawing(alloc: Global, source: &NoteSource<'_>, why: DrawError) -> Notice {
     Notice::Text(match why {
-        DrawError::Read => NO_INPUT,
+        DrawError::Read => return source.no_input(),
         DrawError::Limit => TOO_MANY_BYTES,
-        DrawError::NoLines { lines } => return of_part(alloc, asked, lines),
+        DrawError::NoLines { lines } => return of_part(alloc, source.asked, lines),
         DrawError::TooLong => TOO_LONG,
         DrawError::Memory => NO_MEMORY,
         DrawError::Write => return Notice::Nothing,

@@ -56,8 +56,11 @@ pub fn perform_notice(alloc: Global, source: &NoteSource<'_>, why: PerformError)
             ),
             Some(script),
             PerformError::Drive(_),
-        ) => placed(choices_note(alloc, script, choices), of_performance(why)),
-        _ => of_performance(why),
+        ) => placed(
+            choices_note(alloc, script, choices),
+            of_performance(source, why),
+        ),
+        _ => of_performance(source, why),
     }
 }
 

@@ -33,7 +33,7 @@ pub use input_places::{
     trace_notice, unfinished_notice, unsettled_notice,
 };
 pub use note_source::{JudgedText, NoteSource};
-pub use note_texts::{BOOKS_TOO_LONG, NO_BOOK, NO_INPUT, NO_SEED_DONE, NO_WORD, SEEDS_LEFT};
+pub use note_texts::{BOOKS_TOO_LONG, NO_BOOK, NO_SEED_DONE, NO_WORD, SEEDS_LEFT};
 pub use notice::{NO_MEMORY, Notice, write_line};
 pub use ra_explain::Unanswered;
 pub use recording_reader::{RecordedInput, RecordingReader};

@@ -1,4 +1,6 @@
 //! What notes are made of, besides the outcome of the command.
+use crate::note_texts::{FOLDER_INPUT, NO_INPUT};
+use crate::notice::Notice;
 use ra_arguments::{Command, Task, UsageFault};
 
 /// What notes are made of, besides the outcome of the command.
@@ -14,6 +16,8 @@ pub struct NoteSource<'a> {
     pub seen: Option<&'a [u8]>,
     /// What `draw` and `settle` hand back: the text that they read.
     pub text: &'a [u8],
+    /// Whether the input is a folder, which cannot be read.
+    pub is_folder: bool,
     /// The last seed of a survey that was tried.
     pub last_seed: Option<u64>,
 }
@@ -28,6 +32,15 @@ pub enum JudgedText<'a> {
 }
 
 impl<'a> NoteSource<'a> {
+    /// Returns what there is to say if the reader failed.
+    pub fn no_input(&self) -> Notice {
+        Notice::Text(if self.is_folder {
+            FOLDER_INPUT
+        } else {
+            NO_INPUT
+        })
+    }
+
     /// Returns the text that was checked or was to be drawn.
     pub fn judged_text(&self) -> JudgedText<'a> {
         match self.asked {

@@ -26,6 +26,13 @@ pub const NO_WORD: &str = "the choices of this run cannot be written: one repeat
 /// What is said if a trace or a mark log is too long.
 pub const TOO_MANY_BYTES: &str = "standard input has more than 16777216 bytes";
 
+/// What is said if a mark log is too long that was to be checked.
+pub const LOG_TOO_LONG: &str =
+    "standard input has more than 16777216 bytes: split the log by its names, since each name is judged by its own marks";
+
+/// What is said if standard input is a folder.
+pub const FOLDER_INPUT: &str = "cannot read standard input: it is a folder, and a file is expected";
+
 /// What is said if a text of books is too long.
 pub const BOOKS_TOO_LONG: &str = "standard input has more than 1073741824 bytes";
 

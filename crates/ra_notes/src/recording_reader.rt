@@ -18,6 +18,8 @@ pub struct RecordedInput {
     taken: usize,
     /// Whether there was memory for the bytes.
     is_whole: bool,
+    /// Whether the reader failed since it reads a folder.
+    is_folder: bool,
 }
 
 impl RecordedInput {
@@ -37,6 +39,16 @@ impl RecordedInput {
         } else {
             None
         }
+    }
+
+    /// Returns whether the reader failed since it reads a folder.
+    pub fn is_folder(&self) -> bool {
+        self.is_folder
+    }
+
+    /// Remembers how the reader failed.
+    fn fail(&mut self, error: &io::Error) {
+        self.is_folder = error.kind() == io::ErrorKind::IsADirectory;
     }
 
     /// Returns how many bytes are known that were shown and not read yet.
@@ -91,6 +103,7 @@ impl<R> RecordingReader<R> {
                 most,
                 taken: 0,
                 is_whole: true,
+                is_folder: false,
             },
         }
     }
@@ -105,10 +118,15 @@ impl<R: Read> Read for RecordingReader<R> {
     ghost remaining = { λ reader. R.remaining reader.inner };
 
     fn read(&mut self, buf: &mut [u8]) -> io::Result<usize> {
-        let count = self.inner.read(buf)?;
-        self.recorded.show(&buf[..count]);
-        self.recorded.take(count);
-        Ok(count)
+        let read = self.inner.read(buf);
+        match &read {
+            Ok(count) => {
+                self.recorded.show(&buf[..*count]);
+                self.recorded.take(*count);
+            }
+            Err(error) => self.recorded.fail(error),
+        }
+        read
     }
 }
 
@@ -119,7 +137,13 @@ impl<R: BufRead> BufRead for RecordingReader<R> {
     fn fill_buf(&mut self) -> io::Result<&[u8]> {
         // Until all that was shown is read, a reader with a buffer shows the same, as for most lines.
         if self.recorded.ahead() == 0 {
-            let shown = self.inner.fill_buf()?;
+            let shown = match self.inner.fill_buf() {
+                Ok(shown) => shown,
+                Err(error) => {
+                    self.recorded.fail(&error);
+                    return Err(error);
+                }
+            };
             self.recorded.show(shown);
             if shown.is_empty() {
                 return Ok(b"");

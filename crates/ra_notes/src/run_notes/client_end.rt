@@ -1,6 +1,7 @@
 //! The states of the clients of a script when a run of it ends.
 use ra_explain::{
-    OpenRequest, OpenRequests, Stage, TellsBlocker, push_name_and_mode, push_numbered,
+    AwaitedReplies, OpenRequest, OpenRequests, Stage, TellsBlocker, push_name_and_mode,
+    push_numbered,
 };
 use ra_schedule::{Choice, Op, Policy, Script};
 use ra_stamp::{Entry, Mark, Mode, Name};
@@ -16,8 +17,11 @@ pub struct RunEnd<'a> {
     /// How many turns were made.
     pub turns: u64,
     pub report: &'a Report,
-    /// The requests that wait and hold then, each with the place of the mark of its request.
+    /// The requests that wait and hold then, each with the place of the mark of its request, and the clients that are
+    /// queued.
     pub requests: OpenRequests,
+    /// The messages that are lost or under way for those that wait although no other one blocks them.
+    pub awaited: AwaitedReplies,
 }
 
 /// The state of a client.
@@ -77,13 +81,29 @@ impl<'a> RunEnd<'a> {
             };
             requests.take_mark(mark, since);
         }
-        note.refuse_if(!requests.is_whole);
-        RunEnd {
+        let mut ending = RunEnd {
             script,
             policy,
             turns,
             report,
             requests,
+            awaited: AwaitedReplies::new(alloc, script.nodes(), "step "),
+        };
+        ending.add_queued(place);
+        note.refuse_if(!ending.requests.is_whole);
+        ending
+    }
+
+    /// Adds the clients that are queued, after this many marks.
+    fn add_queued(&mut self, marks: u64) {
+        for place in 0..self.script.clients() {
+            let client = place + 1;
+            if let ClientEnd::Queued { name, mode } = self.client_end(client)
+                && let Some(node) = self.script.node_of(client)
+            {
+                let number = marks.saturating_add(u64::from(client));
+                self.requests.take_ask((node, client, name), mode, number);
+            }
         }
     }
 

@@ -6,16 +6,13 @@ use crate::note_texts::UNEXPLAINED;
 use crate::notice::write_line;
 use crate::run_notes::unfinished::push_run;
 use crate::script_notes::script_text::{run_of, script_in};
-use ra_explain::push_number_in;
+use ra_explain::{NEXT_LINE, push_number_in};
 use ra_schedule::{DriveError, Policy, Script, Shrunk, shrink};
 use ra_script::MAX_TURNS;
 use ra_stamp::Memory;
 use ra_text::Note;
 use std::alloc::Global;
 use std::io::Write;
-
-/// What comes between two lines of a note.
-const NEXT_LINE: &str = "\nra: ";
 
 /// Adds how many choices a policy's run of a script has, and that it is shrunk to this many.
 fn push_shorter(alloc: Global, note: &mut Note, script: &Script, policy: &Policy, choices: u64) {

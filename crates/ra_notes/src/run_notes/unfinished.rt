@@ -2,20 +2,52 @@
 use crate::run_notes::client_end::{ClientEnd, RunEnd};
 use crate::script_notes::script_text::{run_of, script_in};
 use ra_explain::{
-    MAX_CLIENTS, Sought, Stage, push_blockers, push_number_in, push_numbered, want_text,
+    MAX_CLIENTS, Sought, Stage, push_blockers, push_deadlock, push_number_in, push_numbered,
+    want_text, watch_steps,
 };
-use ra_schedule::{Policy, Script};
+use ra_schedule::{Policy, Script, drive};
 use ra_stamp::{Memory, NodeId};
 use ra_text::Note;
 use std::alloc::Global;
 
-/// Adds what is in the way of a client of a node: of one that waits, which requests block it, and of one that is
-/// queued, which client is ahead of it.
+/// The most steps of a run that is made again to find the messages that it lost or left under way.
+const MAX_STEPS: u64 = 1 << 16;
+
+/// Finds the messages that are lost or under way for the requests that wait although no other one blocks them. For that
+/// the run is made again, if it has few enough steps.
+fn find_messages(alloc: Global, ending: &mut RunEnd<'_>) {
+    for place in 0..ending.script.clients() {
+        if let ClientEnd::Waits(entry) = ending.client_end(place + 1)
+            && ending
+                .requests
+                .next_of(0, &Sought::Blocking(entry))
+                .is_none()
+        {
+            ending.awaited.add(&entry);
+        }
+    }
+    if ending.awaited.is_empty() {
+        return;
+    }
+    let is_known = ending.turns <= MAX_STEPS
+        && match drive(alloc, ending.script, ending.policy, MAX_STEPS) {
+            Ok(made) => {
+                let (nodes, steps) = (ending.script.nodes(), made.steps.as_slice());
+                watch_steps(alloc, nodes, steps, &mut ending.awaited)
+            }
+            Err(_) => false,
+        };
+    ending.awaited.refuse_if(!is_known);
+}
+
+/// Adds what is in the way of a client of a node: of one that waits, which requests block it or which message it lacks,
+/// and of one that is queued, which client is ahead of it.
 fn push_reason(note: &mut Note, ending: &RunEnd<'_>, node: NodeId, client_end: &ClientEnd) {
     match client_end {
         ClientEnd::Waits(entry) => {
             if !push_blockers(note, &ending.requests, &Sought::Blocking(*entry), ending) {
-                note.push(want_text(ending.report.under_way, ending.report.lost));
+                let otherwise = want_text(ending.report.under_way, ending.report.lost);
+                ending.awaited.push(note, entry, otherwise);
             }
         }
         ClientEnd::Queued { name, .. } => {
@@ -67,7 +99,8 @@ pub fn push_run(alloc: Global, note: &mut Note, script: &Script, policy: &Policy
     if let Some(summary) = run_of(alloc, note, script, policy)
         && !summary.finished
     {
-        let ending = RunEnd::new(alloc, note, script, policy, summary.turns, &summary.report);
+        let mut ending = RunEnd::new(alloc, note, script, policy, summary.turns, &summary.report);
+        find_messages(alloc, &mut ending);
         note.push("the run did not finish: ");
         let waiting = push_clients(note, &ending, true, 0);
         let count = push_clients(note, &ending, false, waiting);
@@ -75,12 +108,14 @@ pub fn push_run(alloc: Global, note: &mut Note, script: &Script, policy: &Policy
         if count == 0 {
             note.push("all operations are done, but messages are under way");
         }
+        push_deadlock(alloc, note, &ending.requests);
     }
 }
 
 /// Returns a note on what is left to do when a policy has driven the script in a text. For each client that waits or is
-/// queued, the note says for what, and which clients are in its way; other clients come after these. Returns `None` if
-/// the run is finished or refused. It costs as much as the run.
+/// queued, the note says for what, and which clients are in its way or which message it lacks; other clients come after
+/// these. If clients wait for each other in a circle, another line names them. Returns `None` if the run is finished or
+/// refused. It costs as much as the run.
 ///
 /// # Errors
 ///

@@ -165,7 +165,7 @@ client = [
 
 /// What is left to do when the two clients wait for each other.
 pub const DEADLOCK_NOTE: &str =
-    "the run did not finish: client 1 at node 1 waits for 'b' (X): client 2 holds it (X); client 2 at node 2 waits for 'a' (X): client 1 holds it (X)";
+    "the run did not finish: client 1 at node 1 waits for 'b' (X): client 2 holds it (X); client 2 at node 2 waits for 'a' (X): client 1 holds it (X)\nra: a deadlock: client 1 at node 1 waits for client 2 at node 2, which waits for client 1 at node 1";
 
 /// What there is nothing to say of: a line of digits, runs that finish or have no script, choices that can be made or
 /// are no list, and a script that threads may run.
