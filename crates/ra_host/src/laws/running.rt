@@ -9,6 +9,7 @@ ghost use Rattle.ra_book.specs.declared.book.event.BookKind.{BookKind};
 ghost use Rattle.ra_host.specs.Host.{Host, IsOther, Happens, IsOwn, TakesFrame, begins, connects, hears_ack, hears_hello, hears_old, hears_welcome, is_taken, syncs_book};
 ghost use Rattle.ra_book.specs.Pairs.{sent_to};
 ghost use Rattle.ra_host.specs.declared.links.Links.{Links};
+ghost use Rattle.ra_host.specs.Host.{Replays as ReplaysBook};
 ghost use Rattle.ra_host.specs.Hosts.{Event, Packet, Turns, says, silent};
 ghost use Rattle.ra_host.specs.Outgoing.{frame_for};
 ghost use Rattle.ra_host.specs.Played.{PlayedState};
@@ -54,6 +55,11 @@ pub fn what_a_host_does_are_turns()
         → Turns back h (Event.Says_ack j) (says h j (rule.ack_of (h.links j)) None) }
     ensures says_old { (back : ℕ → List Packet) (h : Host) (j : ℕ) → h.up ≡ true → IsOther h j
         → Turns back h (Event.Says_old j) (says h j (rule.old_of (h.links j)) None) }
+    ensures says_frame { (back : ℕ → List Packet) (h : Host) (j number : ℕ) → h.up ≡ true → IsOther h j
+        → Turns back h (Event.Says_frame j number)
+        (says h j (rule.frame_of (h.links j) number) (slice_get (sent_to j h.book) (number - 1))) }
+    ensures replays { (back : ℕ → List Packet) (h new : Host) → h.up ≡ true → ReplaysBook h new
+        → Turns back h Event.Replays (silent new) }
 {}
 
 /// A ready host keeps each frame that is on its disk and not acknowledged, as it is in its book. So `Host::frame` returns

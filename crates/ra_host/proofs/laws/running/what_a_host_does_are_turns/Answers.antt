@@ -1,6 +1,8 @@
-use Rattle.std.proofs.Common.{Some, None, refl}
+use Rattle.std.proofs.Common.{◌-◌, Some, None, refl}
 use Rattle.ra_link.specs.declared.message.Message.TheVariants.{Hello, Welcome, Frame, Ack, Old}
+use Rattle.std.specs.Prelude.{slice_get}
 use Rattle.ra_link.specs.Link as rule
+use Rattle.ra_book.specs.Pairs.{sent_to}
 use Rattle.ra_host.specs.Host.{begins, connects, hears_ack, hears_hello, hears_old, hears_welcome, syncs_book}
 use Rattle.ra_host.specs.Hosts.{Event, says, silent}
 use Rattle.ra_host.proofs.TurnsOfCalls.{when_down, when_said, when_taken, when_up}
@@ -26,4 +28,7 @@ returns c =
       says_hello = λ back h j up other. when_up back h (Event.Says_hello j) (says h j (rule.hello_of (h.links j)) None) up (other, refl);
       says_ack = λ back h j up other. when_up back h (Event.Says_ack j) (says h j (rule.ack_of (h.links j)) None) up (other, refl);
       says_old = λ back h j up other. when_up back h (Event.Says_old j) (says h j (rule.old_of (h.links j)) None) up (other, refl);
+      says_frame = λ back h j number up other.
+          when_up back h (Event.Says_frame j number) (says h j (rule.frame_of (h.links j) number) (slice_get (sent_to j h.book) (number - 1))) up (other, refl);
+      replays = λ back h new up is. when_up back h Event.Replays (silent new) up (is, refl);
     }
