@@ -12,7 +12,7 @@ use ra_arguments::{
 };
 use ra_cli::{CommandFault, do_alone, refuse_arguments, run_by_threads};
 use ra_notes::{
-    NoteSource, RecordingReader, RecordingWriter, SeedProgress, write_arguments_note,
+    NoteSource, Progress, RecordingReader, RecordingWriter, write_arguments_note,
     write_output_note, write_waiting_note,
 };
 use std::alloc::Global;
@@ -49,8 +49,8 @@ pub fn refuse_arguments_with_note<W: Write, N: Write>(
 ///   leaves names locked, and for the seed of a run that was found.
 /// - There is a line if `writer` failed, unless that is a pipe that is no longer read.
 ///
-/// If the input is at a terminal, the first line says what the command waits for. While many seeds take long, it writes
-/// there how far it is. Each line begins with `ra: `. No note goes to `writer`, and a note is left out if memory or
+/// If the input is at a terminal, the first line says what the command waits for. While many seeds take long, or a text is
+/// followed, it writes there how far it is. Of a text that is followed only what is open is kept for the note. Each line begins with `ra: `. No note goes to `writer`, and a note is left out if memory or
 /// `notes` fails, which changes nothing else. To find the place in a script, it is read again. To find which client
 /// waits for which, it is run again, and shrunk again if it was. For the mark that is due, a trace that was to be drawn
 /// is checked again. For what was withdrawn, books in which a client gives up are settled again, if they have at most
@@ -76,18 +76,21 @@ pub fn serve_with_notes<T: Threads + Wait + Sync, R: BufRead, W: Write, N: Write
     if at_terminal {
         write_waiting_note(asked, notes);
     }
-    let mut progress = SeedProgress::new(alloc, notes);
+    let mut progress = Progress::new(alloc, notes);
     let mut text = Vec::new(alloc);
     let outcome = if let Command::Task(Task::Cluster(printed)) = *asked {
         run_by_threads(rt, alloc, printed, reader, writer)
     } else {
         do_alone(alloc, asked, reader, writer, &mut text, &mut progress)
     };
+    let last_seed = progress.last_seed();
+    let followed = progress.into_followed();
     let source = NoteSource {
         arguments,
         asked,
         fault: line.fault.as_ref(),
-        last_seed: progress.last(),
+        last_seed,
+        followed: &followed,
         seen: reader.recorded().bytes(),
         is_folder: reader.recorded().is_folder(),
         text: &text,

@@ -43,11 +43,14 @@ fn notice_of(alloc: Global, source: &NoteSource<'_>, remark: Remark) -> Notice {
         Remark::Unfinished => unfinished_notice(alloc, source),
         Remark::SomeUnfinished => Notice::Text(SEEDS_LEFT),
         Remark::NoneFinished => Notice::Text(NO_SEED_DONE),
-        Remark::Ends { sent } => of_end(alloc, source.seen, sent),
+        Remark::Ends {
+            sent,
+            is_incomplete,
+        } => of_end(alloc, source, sent, is_incomplete),
         Remark::NoTrace { line, cause, due } => {
             trace_notice(alloc, source.judged_text(), line, cause, due)
         },
-        Remark::NoLog { line, cause } => log_notice(alloc, source.judged_text(), line, cause),
+        Remark::NoLog { line, cause } => log_notice(alloc, source, line, cause),
         Remark::Unsettled { line, cause } => unsettled_notice(alloc, source.text, line, cause),
     }
 }

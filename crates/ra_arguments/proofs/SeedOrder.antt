@@ -16,7 +16,7 @@ use Rattle.ra_arguments.specs.declared.usage_fault.UsageCause.{UsageCause}
 use Rattle.ra_arguments.specs.declared.usage_fault.UsageCause.TheVariants as cause
 use Rattle.ra_arguments.specs.Asked.{AsksForTask, IsTaskFor, meaning_given}
 use Rattle.ra_arguments.specs.declared.command_line.Task.TheVariants as task
-use Rattle.ra_arguments.specs.Meanings.{Meaning, Meant, answer, answer_in, chance_of, check, cluster, cluster_by, cluster_in, cut_at_dots, draw, draw_in, ending_in, flag_in, kind_in, meaning_in, numeral, part_in, plain_number_in, policy_in, printed_in, run_by, search_by, seeds_between, seeds_in, seeds_of, sim, sim_by, sim_in, survey, survey_by, with_value}
+use Rattle.ra_arguments.specs.Meanings.{Meaning, Meant, answer, answer_in, chance_of, check, check_in, cluster, cluster_by, cluster_in, cut_at_dots, draw, draw_in, ending_in, every_in, flag_in, follow, kind_in, meaning_in, numeral, part_in, plain_number_in, policy_in, printed_in, run_by, search_by, seeds_between, seeds_in, seeds_of, sim, sim_by, sim_in, survey, survey_by, with_value}
 
 InOrder : SeedRange → Type 0
 InOrder seeds = seeds.first ≤ seeds.last
@@ -36,7 +36,8 @@ IsOrdered (Ok (answer node nodes)) = ⊤
 IsOrdered (Ok (sim policy choices printed)) = ⊤
 IsOrdered (Ok (survey asked)) = InOrder asked.seeds
 IsOrdered (Ok (cluster printed)) = ⊤
-IsOrdered (Ok (check kind)) = ⊤
+IsOrdered (Ok (check kind complete)) = ⊤
+IsOrdered (Ok (follow kind every complete)) = ⊤
 IsOrdered (Ok (draw kind part)) = ⊤
 
 -- what follows from each value, and holds of each cause, holds of the outcome of a value or a cause
@@ -114,9 +115,21 @@ of_cluster true false = tt
 of_cluster false true = tt
 of_cluster true true = tt
 
-a_check : (kind : InputKind) → IsOrdered (Ok (check kind))
+a_check : (kind : InputKind) (complete : Bool) → IsOrdered (Ok (check kind complete))
 unfolding IsOrdered
-a_check kind = tt
+a_check kind complete = tt
+
+a_following : (kind : InputKind) (every : ℕ) (complete : Bool) → IsOrdered (Ok (follow kind every complete))
+unfolding IsOrdered
+a_following kind every complete = tt
+
+of_check : (rows : List Row) → IsOrdered (Ok (check_in rows))
+of_check rows =
+    let kind = kind_in rows in
+    let every = every_in rows in
+    let complete = flag_in (codes "complete") rows in
+    either (λ (meaning : Meaning). IsOrdered (Ok meaning)) (flag_in (codes "follow") rows) (follow kind every complete) (check kind complete)
+    (a_following kind every complete) (a_check kind complete)
 
 a_drawing : (kind : InputKind) (part : Part) → IsOrdered (Ok (draw kind part))
 unfolding IsOrdered
@@ -130,7 +143,7 @@ of_meaning name rows =
     either IsOrdered (bytes_eq name (codes "answer")) (answer_in rows) _ (of_answer rows)
     (either IsOrdered (bytes_eq name (codes "sim")) (sim_in rows) _ (of_sim rows)
     (either IsOrdered (bytes_eq name (codes "cluster")) (cluster_in rows) _ (of_cluster (flag_in (codes "trace") rows) (flag_in (codes "books") rows))
-    (either IsOrdered (bytes_eq name (codes "check")) (Ok (check (kind_in rows))) _ (a_check (kind_in rows))
+    (either IsOrdered (bytes_eq name (codes "check")) (Ok (check_in rows)) _ (of_check rows)
     (either IsOrdered (bytes_eq name (codes "draw")) (draw_in rows) _ (of_draw rows)
     (either IsOrdered (bytes_eq name (codes "node")) (Err cause.OfNode) _ (nothing cause.OfNode)
     (either IsOrdered (bytes_eq name (codes "settle")) (Err cause.OfSettle) (Err cause.NoCommand) (nothing cause.OfSettle) (nothing cause.NoCommand)))))))

@@ -85,7 +85,10 @@ abbrev pub cluster_options : List Rule
 cluster_options = flag (codes "trace") ∷ flag (codes "books") ∷ help_option ∷ []
 
 abbrev pub check_options : List Rule
-check_options = flag (codes "marks") ∷ help_option ∷ []
+check_options =
+    flag (codes "marks") ∷ flag (codes "complete") ∷ flag (codes "follow")
+    ∷ with_default (option (codes "every") long_numbers) (codes "0")
+    ∷ help_option ∷ []
 
 -- the last line of a drawing is by default the last of any input
 abbrev pub draw_options : List Rule

@@ -21,7 +21,7 @@ use Rattle.ra_arguments.specs.declared.usage_fault.UsageFault.{UsageFault}
 use Rattle.ra_arguments.specs.declared.usage_fault.UsageFault.TheVariants as usage
 use Rattle.ra_arguments.specs.Application.{ra_app}
 use Rattle.ra_arguments.specs.Arguments.{AreNodeArguments, AreSimArguments, IsHelpArgument}
-use Rattle.ra_arguments.specs.Meanings.{Meaning, Meant, answer, check, cluster, draw, meaning_in, sim, survey}
+use Rattle.ra_arguments.specs.Meanings.{Meaning, Meant, answer, check, cluster, draw, follow, meaning_in, sim, survey}
 use Rattle.ra_arguments.specs.SettleArguments.{AreSettleArguments, AsksToSettle}
 
 -- ---- what the parser makes of the arguments
@@ -60,8 +60,9 @@ abbrev pub meaning_as : AskedTask → Option Meaning
 meaning_as (task.Answer node nodes) = Some (answer node nodes)
 meaning_as (task.Sim policy choices format) = Some (sim policy choices.now format)
 meaning_as (task.Survey asked) = Some (survey asked)
-meaning_as task.Check = Some (check reads.Trace)
-meaning_as task.CheckMarks = Some (check reads.Marks)
+meaning_as (task.Check complete) = Some (check reads.Trace complete)
+meaning_as (task.CheckMarks complete) = Some (check reads.Marks complete)
+meaning_as (task.Follow kind every complete) = Some (follow kind every complete)
 meaning_as (task.Draw kind part) = Some (draw kind part)
 meaning_as (task.Cluster printed) = Some (cluster printed)
 meaning_as (task.Help text) = None

@@ -32,8 +32,10 @@ pub data Meaning : Type 0 where
   sim : PolicyName → Text → OutputKind → Meaning
   survey : SurveyTask → Meaning
   cluster : ClusterOutput → Meaning
-  -- what is read
-  check : InputKind → Meaning
+  -- what is read, and whether its run has to be complete
+  check : InputKind → (complete : Bool) → Meaning
+  -- the same of a text of any length, after how many lines each time it is told what they come to, or 0 for never
+  follow : InputKind → (every : ℕ) → (complete : Bool) → Meaning
   draw : InputKind → Part → Meaning
 
 -- a meaning, or the cause why it is missing
@@ -220,6 +222,16 @@ cluster_in rows = cluster_by (flag_in (codes "trace") rows) (flag_in (codes "boo
 abbrev pub kind_in : List Row → InputKind
 kind_in rows = if flag_in (codes "marks") rows then reads.Marks else reads.Trace
 
+-- the number has a default
+abbrev pub every_in : List Row → ℕ
+every_in rows = unwrap_or (number_in 64 (codes "every") rows) 0
+
+-- a text that is followed may be of any length
+abbrev pub check_in : List Row → Meaning
+check_in rows = if flag_in (codes "follow") rows
+    then follow (kind_in rows) (every_in rows) (flag_in (codes "complete") rows)
+    else check (kind_in rows) (flag_in (codes "complete") rows)
+
 -- the lines are counted from 1, and the first is at most the last
 abbrev pub part_between : (from to : ℕ) → Option Part
 part_between from to = if nat_le 1 from && nat_le from to then Some (record { from = from; to = to }) else None
@@ -238,7 +250,7 @@ meaning_in name rows =
     if bytes_eq name (codes "answer") then answer_in rows
     else (if bytes_eq name (codes "sim") then sim_in rows
     else (if bytes_eq name (codes "cluster") then cluster_in rows
-    else (if bytes_eq name (codes "check") then Ok (check (kind_in rows))
+    else (if bytes_eq name (codes "check") then Ok (check_in rows)
     else (if bytes_eq name (codes "draw") then draw_in rows
     else (if bytes_eq name (codes "node") then Err cause.OfNode
     else (if bytes_eq name (codes "settle") then Err cause.OfSettle else Err cause.NoCommand))))))

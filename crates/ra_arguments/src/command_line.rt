@@ -11,7 +11,7 @@ ghost use Rattle.clap.specs.Words.{HasKind, found_of, kind_of, rows_of, subcomma
 ghost use Rattle.ra_arguments.specs.Arguments.{IsHelpArgument};
 ghost use Rattle.ra_arguments.specs.Asked.{AsksForTask, IsArgumentsFault, IsRefusedBy, IsTaken, IsTaskFor, is_help, meaning_given, refusals};
 ghost use Rattle.ra_arguments.specs.Helping.{IsShown, ShowsHelp, helps_of};
-ghost use Rattle.ra_arguments.specs.Meanings.{answer_in, chance_of as chance_by, cluster_in, draw_in, check, ending_in, flag_in, kind_in, meaning_in, number_in, part_in, plain_number_in, policy_in, policy_named as policy_by_name, printed_by, printed_in, rates_in, repeats_in, search_by, seeds_in, sim_in, survey_by, with_sends as printed_with_sends};
+ghost use Rattle.ra_arguments.specs.Meanings.{answer_in, chance_of as chance_by, cluster_in, draw_in, check_in, ending_in, every_in, flag_in, kind_in, meaning_in, number_in, part_in, plain_number_in, policy_in, policy_named as policy_by_name, printed_by, printed_in, rates_in, repeats_in, search_by, seeds_in, sim_in, survey_by, with_sends as printed_with_sends};
 
 use crate::cluster_output::ClusterOutput;
 use crate::command_line::command_rows::matches_of;
@@ -57,10 +57,21 @@ pub enum Task<'a> {
     },
     /// The command `sim` with many seeds.
     Survey(SurveyTask),
-    /// The command `check`.
-    Check,
-    /// The command `check --marks`.
-    CheckMarks,
+    /// The command `check`, and whether the run has to be complete.
+    Check {
+        complete: bool,
+    },
+    /// The command `check --marks`, and whether the run has to be complete.
+    CheckMarks {
+        complete: bool,
+    },
+    /// The command `check --follow`, with what it reads, after how many lines each time it tells what they come to (0:
+    /// never), and whether the run has to be complete.
+    Follow {
+        kind: InputKind,
+        every: u64,
+        complete: bool,
+    },
     /// The command `draw`, with what it reads, and the part that is drawn.
     Draw {
         kind: InputKind,
@@ -410,13 +421,32 @@ fn draw_task<'a>(given: &ArgMatches<'a>) -> Result<Task<'a>, UsageCause>
     Ok(Task::Draw { kind, part })
 }
 
+/// Returns after how many lines each time the command `check` tells what they come to, or 0 for never. It does not
+/// allocate.
+fn every_of(given: &ArgMatches) -> u64
+    ensures { result ≡ every_in (rows_of (found_of given.now)) }
+{
+    // It has a default, so the parser gives it a number.
+    long_number(given, "every").unwrap_or(0)
+}
+
 /// Returns the task of the command `check`.
 fn check_task<'a>(given: &ArgMatches<'a>) -> Task<'a>
-    ensures { IsTaskFor (Ok (check (kind_in (rows_of (found_of given.now))))) result }
+    ensures { IsTaskFor (Ok (check_in (rows_of (found_of given.now)))) result }
 {
-    match kind_of(given) {
-        InputKind::Trace => Task::Check,
-        InputKind::Marks => Task::CheckMarks,
+    let complete = has_flag(given, "complete");
+    let kind = kind_of(given);
+    if has_flag(given, "follow") {
+        let every = every_of(given);
+        return Task::Follow {
+            kind,
+            every,
+            complete,
+        };
+    }
+    match kind {
+        InputKind::Trace => Task::Check { complete },
+        InputKind::Marks => Task::CheckMarks { complete },
     }
 }
 

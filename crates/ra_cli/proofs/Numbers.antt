@@ -1,5 +1,5 @@
 -- Which statuses there are.
-use Rattle.std.proofs.Common.{◌≡◌, ◌≤◌, ℕ, arith}
+use Rattle.std.proofs.Common.{◌≡◌, ◌≢◌, ◌≤◌, ℕ, arith}
 
 pub at_most_3 : (status : ℕ) → status ≤ 2 → status ≤ 3
 at_most_3 status h = omega arith
@@ -9,6 +9,9 @@ none_of_done status h is = absurd (omega (arith, h, is))
 
 pub none_of_3 : {A : Type 0} (status : ℕ) → status ≤ 2 → status ≡ 3 → A
 none_of_3 status h is = absurd (omega (arith, h, is))
+
+pub neither : {A : Type 0} (status : ℕ) → 1 ≤ status → status ≤ 2 → status ≢ 1 → status ≢ 2 → A
+neither status some few not_1 not_2 = absurd (omega (arith, some, few, not_1, not_2))
 
 -- ---- What a status is not that is known
 

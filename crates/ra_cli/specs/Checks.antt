@@ -1,7 +1,9 @@
 -- What `ra check` does.
-use Rattle.std.specs.Prelude.{◌≡◌, ◌⊎◌, ℕ, List, ◌++◌, Bool, true, false, Option, IfSome, codes, decimal}
+use Rattle.std.specs.Prelude.{◌≡◌, ◌≢◌, ◌⊎◌, ℕ, List, ◌++◌, Bool, true, false, Option, Result, IfSome, IsOkAnd, codes, decimal}
 use Rattle.std.specs.Io.KnownBytes.{Consumes, Appends}
 use Rattle.ra_text.specs.Lines.{field, total_line}
+use Rattle.ra_arguments.specs.declared.command_line.input_kind.InputKind.{InputKind}
+use Rattle.ra_arguments.specs.declared.command_line.input_kind.InputKind.TheVariants as reads
 use Rattle.ra_trace.specs.declared.checker.verdict.Cause.{Cause}
 use Rattle.ra_trace.specs.declared.checker.verdict.Cause.TheVariants.{Line, Refused, NotUnderWay, Sends, Marks, Table}
 use Rattle.ra_trace.specs.declared.checker.verdict.Verdict.{Verdict}
@@ -11,6 +13,10 @@ use Rattle.ra_trace.specs.declared.mark_log.marks_verdict.MarkCause.{MarkCause}
 use Rattle.ra_trace.specs.declared.mark_log.marks_verdict.MarkCause.TheVariants as mark
 use Rattle.ra_trace.specs.declared.mark_log.marks_verdict.MarksVerdict.{MarksVerdict}
 use Rattle.ra_trace.specs.declared.mark_log.marks_verdict.MarksVerdict.TheVariants as marks
+use Rattle.ra_trace.specs.declared.checker.trace_watcher.TraceSoFar.{TraceSoFar}
+use Rattle.ra_trace.specs.declared.mark_log.marks_watcher.MarksSoFar.{MarksSoFar}
+use Rattle.ra_trace.specs.Complete.{MeetsLog, MeetsTrace}
+use Rattle.ra_trace.specs.Following.{TellsMarks, TellsTrace}
 use Rattle.ra_trace.specs.Marks.{IsMarksVerdict}
 use Rattle.ra_trace.specs.Reading.{Judges as ShowsVerdict, PassesLimit, ReadsOn, StopsAfter}
 use Rattle.ra_trace.specs.MarksReading.{JudgesMarks, PassesMarksLimit, ReadsOnMarks, StopsAfterMarks}
@@ -37,24 +43,24 @@ abbrev pub is_valid : Verdict → Bool
 is_valid (Valid requests messages) = true
 is_valid (Invalid line cause) = false
 
--- The outcome of a check, for any kind of text. A kind has its verdicts on an input, `is_right` says which of them say
--- that the input is of the kind, and `lines_of` has the lines of each. If the input is known, it has a verdict, right
--- or not, and exactly the lines of the verdict were written. It was read to its end if the verdict is right, and
--- otherwise no further than to the byte that shows it, which `Shows` says. If it is not known, a text with such a
--- verdict still exists.
-abbrev pub Judges : {V : Type 0} → (IsVerdictOn : List ℕ → V → Type 0)
-    → (Shows : Option (List ℕ) → Option (List ℕ) → V → Type 0) → (is_right : V → Bool) → (lines_of : V → List ℕ)
+-- The outcome of a check, for any kind of text. A kind has its verdicts on an input, `is_valid` says which of them say
+-- that the input is of the kind, `Meets` whether an input with a verdict passes, and `lines_of` has the lines of each.
+-- If the input is known, it has a verdict, passes or not, and exactly the lines of the verdict were written. It was
+-- read to its end if it is valid, and otherwise no further than shows the verdict, which `Shows` says. If it is not
+-- known, such a text still exists.
+abbrev pub Judges : {V : Type 0} → (IsVerdictOn : List ℕ → V → Type 0) → (Meets : List ℕ → V → Bool → Type 0)
+    → (Shows : Option (List ℕ) → Option (List ℕ) → V → Type 0) → (is_valid : V → Bool) → (lines_of : V → List ℕ)
     → (old new before after : Option (List ℕ)) → Bool → Type 0
-Judges {V} IsVerdictOn Shows is_right lines_of old new before after right =
-    IfSome old (λ input. (verdict : V) × IsVerdictOn input verdict × (is_right verdict ≡ right)
-    × Shows old new verdict × (right ≡ true → Consumes old new input)
+Judges {V} IsVerdictOn Meets Shows is_valid lines_of old new before after passes =
+    IfSome old (λ input. (verdict : V) × IsVerdictOn input verdict × Meets input verdict passes
+    × Shows old new verdict × (is_valid verdict ≡ true → Consumes old new input)
     × Appends before after (lines_of verdict))
-    × ((input : List ℕ) × (verdict : V) × IsVerdictOn input verdict × (is_right verdict ≡ right)
+    × ((input : List ℕ) × (verdict : V) × IsVerdictOn input verdict × Meets input verdict passes
     × Appends before after (lines_of verdict))
 
--- the outcome of a check of a trace
-abbrev pub Checks : (old new before after : Option (List ℕ)) → Bool → Type 0
-Checks = Judges IsVerdict (ShowsVerdict 16777216) is_valid verdict_text
+-- the outcome of a check of a trace, which may have this many bytes, and may have to be complete
+abbrev pub Checks : (most : ℕ) → (complete : Bool) → (old new before after : Option (List ℕ)) → Bool → Type 0
+Checks most complete = Judges IsVerdict (MeetsTrace complete) (ShowsVerdict most) is_valid verdict_text
 
 -- ---- Mark logs
 
@@ -80,24 +86,72 @@ abbrev pub is_run : MarksVerdict → Bool
 is_run (marks.Valid requests grants) = true
 is_run (marks.Invalid line cause) = false
 
--- the outcome of a check of a mark log
-abbrev pub ChecksMarks : (old new before after : Option (List ℕ)) → Bool → Type 0
-ChecksMarks = Judges IsMarksVerdict (JudgesMarks 16777216) is_run marks_verdict_text
+-- the outcome of a check of a mark log, likewise
+abbrev pub ChecksMarks : (most : ℕ) → (complete : Bool) → (old new before after : Option (List ℕ)) → Bool → Type 0
+ChecksMarks most complete = Judges IsMarksVerdict (MeetsLog complete) (JudgesMarks most) is_run marks_verdict_text
 
 -- ---- Refusals
 
 -- Why a check of a trace is refused. If the reader failed, what was read has no verdict. If the text is too long, its
--- first 16,777,216 bytes have none, and another byte came. If memory ran out, only lines that are right were read, or
--- no more than shows a verdict, for whose lines there was no memory.
-abbrev pub RefusesCheck : (old new : Option (List ℕ)) → TraceError → Type 0
-RefusesCheck old new fault.Read = ReadsOn 16777216 old new
-RefusesCheck old new fault.Limit = PassesLimit 16777216 old new
-RefusesCheck old new fault.Memory =
-    StopsAfter 16777216 old new ⊎ ((verdict : Verdict) × ShowsVerdict 16777216 old new verdict)
+-- first bytes, as many as it may have, have none, and another byte came. If memory ran out, only lines that are right
+-- were read, or no more than shows a verdict, for whose lines there was no memory.
+abbrev pub RefusesCheck : (most : ℕ) → (old new : Option (List ℕ)) → TraceError → Type 0
+RefusesCheck most old new fault.Read = ReadsOn most old new
+RefusesCheck most old new fault.Limit = PassesLimit most old new
+RefusesCheck most old new fault.Memory =
+    StopsAfter most old new ⊎ ((verdict : Verdict) × ShowsVerdict most old new verdict)
 
 -- the same, of a mark log
-abbrev pub RefusesCheckOfMarks : (old new : Option (List ℕ)) → TraceError → Type 0
-RefusesCheckOfMarks old new fault.Read = ReadsOnMarks 16777216 old new
-RefusesCheckOfMarks old new fault.Limit = PassesMarksLimit 16777216 old new
-RefusesCheckOfMarks old new fault.Memory =
-    StopsAfterMarks 16777216 old new ⊎ ((verdict : MarksVerdict) × JudgesMarks 16777216 old new verdict)
+abbrev pub RefusesCheckOfMarks : (most : ℕ) → (old new : Option (List ℕ)) → TraceError → Type 0
+RefusesCheckOfMarks most old new fault.Read = ReadsOnMarks most old new
+RefusesCheckOfMarks most old new fault.Limit = PassesMarksLimit most old new
+RefusesCheckOfMarks most old new fault.Memory =
+    StopsAfterMarks most old new ⊎ ((verdict : MarksVerdict) × JudgesMarks most old new verdict)
+
+-- ---- By what is read
+
+-- how many bytes a text may have that is followed; one that is only checked may have 16,777,216
+abbrev pub most_followed : ℕ
+most_followed = 9223372036854775808
+
+abbrev pub ChecksKind : InputKind → (most : ℕ) → (complete : Bool) → (old new before after : Option (List ℕ)) → Bool
+    → Type 0
+ChecksKind reads.Trace = Checks
+ChecksKind reads.Marks = ChecksMarks
+
+abbrev pub RefusesCheckOfKind : InputKind → (most : ℕ) → (old new : Option (List ℕ)) → TraceError → Type 0
+RefusesCheckOfKind reads.Trace = RefusesCheck
+RefusesCheckOfKind reads.Marks = RefusesCheckOfMarks
+
+-- the text tells the verdict on the input
+abbrev pub IsVerdictText : InputKind → (input text : List ℕ) → Type 0
+IsVerdictText reads.Trace input text = (verdict : Verdict) × IsVerdict input verdict × (text ≡ verdict_text verdict)
+IsVerdictText reads.Marks input text =
+    (verdict : MarksVerdict) × IsMarksVerdict input verdict × (text ≡ marks_verdict_text verdict)
+
+-- ---- Who is told
+
+-- What a watcher is told of a trace after each `every` lines that are right, by a command with this status: with a
+-- verdict, none of it is left out. `old` is what was left in the reader before it, and `before` and `after` are what
+-- the watcher was told, if they tell.
+abbrev pub TellsOfTrace : (every : ℕ) → (old : Option (List ℕ)) → (before after : Option (List TraceSoFar))
+    → (status : ℕ) → Type 0
+TellsOfTrace every old before after status =
+    (result : Result Verdict TraceError) × TellsTrace every old result before after
+    × (status ≢ 1 → status ≢ 2 → IfSome old (λ input. IsOkAnd result (IsVerdict input)))
+
+-- the same, of a mark log
+abbrev pub TellsOfMarks : (every : ℕ) → (old : Option (List ℕ)) → (before after : Option (List MarksSoFar))
+    → (status : ℕ) → Type 0
+TellsOfMarks every old before after status =
+    (result : Result MarksVerdict TraceError) × TellsMarks every old result before after
+    × (status ≢ 1 → status ≢ 2 → IfSome old (λ input. IsOkAnd result (IsMarksVerdict input)))
+
+-- the same, of a text of this kind; what is told of another kind does not matter
+abbrev pub TellsOfKind : InputKind → (every : ℕ) → (old : Option (List ℕ))
+    → (trace_before trace_after : Option (List TraceSoFar)) → (marks_before marks_after : Option (List MarksSoFar))
+    → (status : ℕ) → Type 0
+TellsOfKind reads.Trace every old trace_before trace_after marks_before marks_after status =
+    TellsOfTrace every old trace_before trace_after status
+TellsOfKind reads.Marks every old trace_before trace_after marks_before marks_after status =
+    TellsOfMarks every old marks_before marks_after status

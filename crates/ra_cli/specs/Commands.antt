@@ -8,6 +8,9 @@ use Rattle.ra_arguments.specs.declared.cluster_output.ClusterOutput.{ClusterOutp
 use Rattle.ra_arguments.specs.declared.command.Command.{Command}
 use Rattle.ra_arguments.specs.declared.command.Command.TheVariants.{Node, Settle, Task, Unknown}
 use Rattle.ra_arguments.specs.declared.command_line.Task.TheVariants as task
+use Rattle.ra_trace.specs.declared.checker.trace_watcher.TraceSoFar.{TraceSoFar}
+use Rattle.ra_trace.specs.declared.mark_log.marks_watcher.MarksSoFar.{MarksSoFar}
+use Rattle.ra_cli.specs.Checks.{TellsOfKind}
 use Rattle.ra_cli.specs.NodeRun.{ServesNode}
 use Rattle.ra_cli.specs.Refusals.{command_word, refused_line}
 use Rattle.ra_cli.specs.SettleRun.{ServesSettle}
@@ -35,6 +38,15 @@ ReadsNothing (Task (task.Answer node nodes)) = IsMember node nodes → ⊥
 ReadsNothing (Task (task.Sim policy choices format)) = choices_of choices.now ≡ None
 ReadsNothing (Task asked) = ⊥
 ReadsNothing (Unknown fault) = ⊤
+
+-- What the observer of a command is told of a text that is followed, by the status of the command. Of another command
+-- nothing is said.
+abbrev pub TellsObserver : Command → (old : Option (List ℕ))
+    → (trace_before trace_after : Option (List TraceSoFar)) → (marks_before marks_after : Option (List MarksSoFar))
+    → (status : ℕ) → Type 0
+TellsObserver (Task (task.Follow kind every complete)) old trace_before trace_after marks_before marks_after status =
+    TellsOfKind kind every old trace_before trace_after marks_before marks_after status
+TellsObserver asked old trace_before trace_after marks_before marks_after status = ⊤
 
 -- no thread is started for the command: it is not `cluster`
 abbrev pub NeedsNoThreads : Command → Type 0

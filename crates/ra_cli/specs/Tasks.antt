@@ -13,15 +13,11 @@ use Rattle.ra_script.specs.declared.error.PerformError.TheVariants as perform
 use Rattle.ra_script.specs.declared.output_kind.OutputKind.{OutputKind}
 use Rattle.ra_script.specs.Performed.{IsPerformedAs, RefusesAs}
 use Rattle.ra_trace.specs.declared.error.TraceError.{TraceError}
-use Rattle.ra_trace.specs.declared.checker.verdict.Verdict.{Verdict}
-use Rattle.ra_trace.specs.Verdict.{IsVerdict}
-use Rattle.ra_trace.specs.declared.mark_log.marks_verdict.MarksVerdict.{MarksVerdict}
-use Rattle.ra_trace.specs.Marks.{IsMarksVerdict}
 use Rattle.ra_draw.specs.declared.error.DrawError.{DrawError}
 use Rattle.ra_text.specs.declared.drawn_part.Part.{Part}
 use Rattle.ra_draw.specs.Drawing.{IsInput}
 use Rattle.ra_cli.specs.Answer.{IsAnswered, Refuses}
-use Rattle.ra_cli.specs.Checks.{Checks, ChecksMarks, RefusesCheck, RefusesCheckOfMarks, marks_verdict_text, verdict_text}
+use Rattle.ra_cli.specs.Checks.{Checks, ChecksKind, ChecksMarks, IsVerdictText, RefusesCheck, RefusesCheckOfKind, RefusesCheckOfMarks, most_followed}
 use Rattle.ra_cli.specs.ClusterRun.{IsClusterRun, RunsCluster, RefusesRun}
 use Rattle.ra_cli.specs.InputOutput.{BreaksOff, OfInput, StopsBefore}
 use Rattle.ra_cli.specs.Performs.{PerformsBy}
@@ -37,6 +33,7 @@ use Rattle.ra_cli.specs.declared.error.AnswerError.TheVariants as answer
 use Rattle.ra_cli.specs.declared.error.RunScriptError.{RunScriptError}
 use Rattle.ra_cli.specs.declared.error.RunScriptError.TheVariants as run
 use Rattle.ra_arguments.specs.declared.command_line.input_kind.InputKind.{InputKind}
+use Rattle.ra_arguments.specs.declared.command_line.input_kind.InputKind.TheVariants as reads
 use Rattle.ra_cli.specs.declared.refusal_lines.CommandRefusal.{CommandRefusal}
 use Rattle.ra_cli.specs.declared.refusal_lines.CommandRefusal.TheVariants as refusal
 
@@ -67,20 +64,25 @@ IsDoneBy (task.Answer node nodes) old new before after = AnswersAs node nodes ol
 IsDoneBy (task.Sim policy choices format) old new before after =
     PerformsNamed policy choices.now format old new before after true
 IsDoneBy (task.Survey survey) old new before after = SurveysBy survey old new before after true
-IsDoneBy task.Check old new before after = Checks old new before after true
-IsDoneBy task.CheckMarks old new before after = ChecksMarks old new before after true
+IsDoneBy (task.Check complete) old new before after = Checks 16777216 complete old new before after true
+IsDoneBy (task.CheckMarks complete) old new before after = ChecksMarks 16777216 complete old new before after true
+IsDoneBy (task.Follow kind every complete) old new before after =
+    ChecksKind kind most_followed complete old new before after true
 IsDoneBy (task.Draw kind part) old new before after = DrawsPart kind part old new before after
 IsDoneBy (task.Cluster printed) old new before after = RunsCluster printed old new before after
 IsDoneBy (task.Help text) old new before after = ⊥
 
--- status 3: a run ended with something left to do, or the input is not the trace or the log that it should be
+-- status 3: a run ended with something left to do, or the input is not the trace or the log that it should be, or is
+-- not complete though it has to be
 abbrev pub IsLeftBy : Task → (old new before after : Option (List ℕ)) → Type 0
 IsLeftBy (task.Answer node nodes) old new before after = ⊥
 IsLeftBy (task.Sim policy choices format) old new before after =
     PerformsNamed policy choices.now format old new before after false
 IsLeftBy (task.Survey survey) old new before after = SurveysBy survey old new before after false
-IsLeftBy task.Check old new before after = Checks old new before after false
-IsLeftBy task.CheckMarks old new before after = ChecksMarks old new before after false
+IsLeftBy (task.Check complete) old new before after = Checks 16777216 complete old new before after false
+IsLeftBy (task.CheckMarks complete) old new before after = ChecksMarks 16777216 complete old new before after false
+IsLeftBy (task.Follow kind every complete) old new before after =
+    ChecksKind kind most_followed complete old new before after false
 IsLeftBy (task.Draw kind part) old new before after = IsNotDrawn kind old new before after
 IsLeftBy (task.Cluster printed) old new before after = ⊥
 IsLeftBy (task.Help text) old new before after = ⊥
@@ -92,9 +94,9 @@ IsPrintedBy (task.Sim name choices format) input text =
     (policy : Policy) × (finished : Bool) × IsNamed name choices.now policy
     × IsPerformedAs format policy input text finished
 IsPrintedBy (task.Survey survey) input text = (finished : Bool) × IsTold survey input text finished
-IsPrintedBy task.Check input text = (verdict : Verdict) × IsVerdict input verdict × (text ≡ verdict_text verdict)
-IsPrintedBy task.CheckMarks input text = (verdict : MarksVerdict) × IsMarksVerdict input verdict
-    × (text ≡ marks_verdict_text verdict)
+IsPrintedBy (task.Check complete) input text = IsVerdictText reads.Trace input text
+IsPrintedBy (task.CheckMarks complete) input text = IsVerdictText reads.Marks input text
+IsPrintedBy (task.Follow kind every complete) input text = IsVerdictText kind input text
 IsPrintedBy (task.Draw kind part) input text = IsDrawing kind part input text
 IsPrintedBy (task.Cluster printed) input text = IsClusterRun printed input text
 IsPrintedBy (task.Help shown) input text = ⊥
@@ -117,9 +119,12 @@ IsCauseFor (task.Answer node nodes) old new why = (fault : AnswerError) × (why 
 IsCauseFor (task.Sim policy choices format) old new why = RefusesNamed policy choices.now format old new why
 IsCauseFor (task.Survey survey) old new why = (fault : RunScriptError) × (why ≡ refusal.Survey fault)
     × (fault ≡ run.Read → StopsBefore 65537 old new) × IfSome old (λ input. RefusesSurvey survey input fault)
-IsCauseFor task.Check old new why = (fault : TraceError) × (why ≡ refusal.Check fault) × RefusesCheck old new fault
-IsCauseFor task.CheckMarks old new why = (fault : TraceError) × (why ≡ refusal.Check fault)
-    × RefusesCheckOfMarks old new fault
+IsCauseFor (task.Check complete) old new why = (fault : TraceError) × (why ≡ refusal.Check fault)
+    × RefusesCheck 16777216 old new fault
+IsCauseFor (task.CheckMarks complete) old new why = (fault : TraceError) × (why ≡ refusal.Check fault)
+    × RefusesCheckOfMarks 16777216 old new fault
+IsCauseFor (task.Follow kind every complete) old new why = (fault : TraceError) × (why ≡ refusal.Check fault)
+    × RefusesCheckOfKind kind most_followed old new fault
 IsCauseFor (task.Draw kind part) old new why = (fault : DrawError) × (why ≡ refusal.Draw fault)
     × RefusesPart kind part old new fault
 IsCauseFor (task.Cluster printed) old new why = (fault : RunScriptError) × (why ≡ refusal.Cluster fault)

@@ -4,6 +4,7 @@ pub mod answer_command;
 pub mod check_command;
 pub mod cluster_command;
 pub mod draw_command;
+pub mod follow_command;
 pub mod marks_verdict_lines;
 pub mod node_command;
 pub mod run_trace;

@@ -32,8 +32,10 @@ pub enum Remark {
         line: u64,
         cause: MarkCause,
     },
-    /// The text is a trace in which this many messages were sent, or a run of the lock table, which sends none.
+    /// The text is a trace in which this many messages were sent, or a run of the lock table, which sends none. It may
+    /// have had to be complete, and is not.
     Ends {
         sent: u128,
+        is_incomplete: bool,
     },
 }

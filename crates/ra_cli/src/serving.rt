@@ -1,12 +1,13 @@
 //! Each command is done by its own function.
 ghost use Rattle.std.specs.Prelude.{◌≡◌, map, string_bytes};
 ghost use Rattle.ra_arguments.specs.Helping.{helps_of};
-ghost use Rattle.ra_cli.specs.Commands.{DoesCommand, NeedsNoThreads, ReadsNothing, Serves};
+ghost use Rattle.ra_cli.specs.Commands.{DoesCommand, NeedsNoThreads, ReadsNothing, Serves, TellsObserver};
 
 use crate::commands::answer_command::respond;
 use crate::commands::check_command::{judge, judge_marks};
 use crate::commands::cluster_command::run_by_threads;
 use crate::commands::draw_command::draw_part;
+use crate::commands::follow_command::follow_text;
 use crate::commands::node_command::be_a_node;
 use crate::commands::settle_command::settle_books;
 use crate::commands::sim_command::simulate;
@@ -18,15 +19,16 @@ use ra_arguments::{
     STATUS_HELP, SUMMARY_HELP, Task, command_of,
 };
 use ra_schedule::Observer;
+use ra_trace::{MarksWatcher, TraceWatcher};
 use std::alloc::Global;
 use std::io::{BufRead, Write};
 use std::sync::Wait;
 use std::thread::Threads;
 
 /// Does a command other than `cluster`, which [`run_by_threads`] does, and returns its outcome. It starts no thread,
-/// and waits only for the reader and the writer. The observer learns of each seed. A text to be drawn or settled is
-/// left in `text`, unless that is refused.
-pub fn do_alone<R: BufRead, W: Write, O: Observer>(
+/// and waits only for the reader and the writer. The observer learns of each seed, and of each line of a text that is
+/// followed. A text to be drawn or settled is left in `text`, unless that is refused.
+pub fn do_alone<R: BufRead, W: Write, O: Observer + TraceWatcher + MarksWatcher>(
     alloc: Global,
     asked: &Command<'_>,
     reader: &mut R,
@@ -38,6 +40,9 @@ pub fn do_alone<R: BufRead, W: Write, O: Observer>(
     ensures does { DoesCommand asked.now (R.remaining reader.old) (R.remaining reader.new)
         (W.contents writer.old) (W.contents writer.new) result.status }
     ensures unread { ReadsNothing asked.now → reader.new ≡ reader.old }
+    ensures told { TellsObserver asked.now (R.remaining reader.old)
+        (O.TraceWatcher.told observer.old) (O.TraceWatcher.told observer.new)
+        (O.MarksWatcher.told observer.old) (O.MarksWatcher.told observer.new) result.status }
 {
     match *asked {
         Command::Node => be_a_node(alloc, reader, writer),
@@ -53,8 +58,17 @@ pub fn do_alone<R: BufRead, W: Write, O: Observer>(
         Command::Task(Task::Survey(ref survey)) => {
             survey_seeds(alloc, survey, reader, writer, observer)
         }
-        Command::Task(Task::Check) => judge(alloc, reader, writer),
-        Command::Task(Task::CheckMarks) => judge_marks(alloc, reader, writer),
+        Command::Task(Task::Check { complete }) => judge(alloc, complete, reader, writer),
+        Command::Task(Task::CheckMarks { complete }) => {
+            judge_marks(alloc, complete, reader, writer)
+        }
+        Command::Task(
+            Task::Follow {
+                kind,
+                every,
+                complete,
+            },
+        ) => { follow_text(alloc, kind, every, complete, reader, writer, observer) }
         Command::Task(Task::Draw { kind, part }) => {
             draw_part(alloc, kind, part, reader, writer, text)
         }
@@ -69,7 +83,8 @@ pub fn do_alone<R: BufRead, W: Write, O: Observer>(
 /// - 0: done.
 /// - 1: a fault of the input or the output.
 /// - 2: refused.
-/// - 3: a run that ended with something left to do, a trace or a log that is not one, or books that do not settle.
+/// - 3: a run that ended with something left to do, a trace or a log that is not one or not as complete as demanded, or
+///   books that do not settle.
 ///
 /// A refusal is printed as one line, `refused` and its word; `ra node` answers refused lines and goes on. No read or
 /// write that failed is tried again, and after a fault of the output nothing more is written. It waits only for the

@@ -1,17 +1,18 @@
 //! What is said of a command that was not done, of arguments that cannot be read, and of output that failed.
 use crate::note_source::NoteSource;
 use crate::note_texts::{
-    LOG_TOO_LONG, NO_OUTPUT, NO_SPACE, NO_TEXT, NO_WORD, TOO_LONG, TOO_MANY_BYTES, TOO_MANY_TURNS,
-    UNEXPLAINED,
+    LEFT_IN_TRACE, LOG_TOO_LONG, NO_OUTPUT, NO_SPACE, NO_TEXT, NO_WORD, TOO_LONG, TOO_MANY_BYTES,
+    TOO_MANY_TURNS, UNEXPLAINED,
 };
 use crate::notice::{NO_MEMORY, Notice, write_line};
 use crate::recording_writer::OutputFault;
 use crate::usage_notes::{is_choice, usage_note};
-use ra_arguments::{Command, CommandFault, Task, UsageFault};
+use ra_arguments::{Command, CommandFault, InputKind, Task, UsageFault};
 use ra_draw::DrawError;
 use ra_explain::{end_note, push_number_in, push_numbered};
 use ra_schedule::{ChoicesError, DriveError};
 use ra_script::PerformError;
+use ra_stamp::Memory;
 use ra_text::Note;
 use ra_trace::TraceError;
 use std::alloc::Global;
@@ -37,12 +38,50 @@ pub fn write_output_note<N: Write>(fault: Option<OutputFault>, notes: &mut N) {
     write_line(notes, text);
 }
 
-/// Returns what to say about the end of a trace in which this many messages were sent, or of a mark log.
-pub fn of_end(alloc: Global, text: Option<&[u8]>, sent: u128) -> Notice {
-    let Some(text) = text else {
-        return Notice::Text(UNEXPLAINED);
-    };
-    match end_note(alloc, text, sent) {
+/// Returns the note on a text that had to be complete, and is not, with what is left at its end.
+fn of_incomplete_end(alloc: Global, left: Option<&str>) -> Notice {
+    let mut note = Note::new(alloc);
+    note.push("not complete: ");
+    note.push(left.unwrap_or("no request was made"));
+    Notice::of(note)
+}
+
+/// Returns what is left at the end of the text, a trace in which this many messages were sent, or a mark log.
+///
+/// # Errors
+///
+/// `Memory`: memory ran out, also before, for the text.
+fn left_at_end(
+    alloc: Global,
+    source: &NoteSource<'_>,
+    sent: u128,
+) -> Result<Option<String>, Memory> {
+    match (source.asked, source.seen) {
+        (Command::Task(Task::Follow { .. }), _) => source.followed.log_end(),
+        (_, Some(text)) => end_note(alloc, text, sent),
+        (_, None) => Err(Memory),
+    }
+}
+
+/// Returns what to say about the end of a trace in which this many messages were sent, or of a mark log. The text may
+/// have had to be complete, and is not.
+pub fn of_end(alloc: Global, source: &NoteSource<'_>, sent: u128, is_incomplete: bool) -> Notice {
+    if let Command::Task(
+        Task::Follow {
+            kind: InputKind::Trace,
+            ..
+        },
+    ) = source.asked
+    {
+        return if is_incomplete {
+            Notice::Text(LEFT_IN_TRACE)
+        } else {
+            Notice::Nothing
+        };
+    }
+    match left_at_end(alloc, source, sent) {
+        Ok(Some(text)) if is_incomplete => of_incomplete_end(alloc, Some(text.as_str())),
+        Ok(None) if is_incomplete => of_incomplete_end(alloc, None),
         Ok(Some(text)) => Notice::Note(text),
         Ok(None) => Notice::Nothing,
         // Without a note, nothing would seem to be left.
@@ -112,7 +151,7 @@ pub fn of_check(source: &NoteSource<'_>, why: TraceError) -> Notice {
     Notice::Text(match why {
         TraceError::Read => return source.no_input(),
         TraceError::Limit => match source.asked {
-            Command::Task(Task::CheckMarks) => LOG_TOO_LONG,
+            Command::Task(Task::CheckMarks { .. }) => LOG_TOO_LONG,
             _ => TOO_MANY_BYTES,
         },
         TraceError::Memory => NO_MEMORY,

@@ -192,9 +192,13 @@ pub fn trace_notice(
 }
 
 /// Returns what there is to say about a text that is not a mark log, by its first wrong line.
-pub fn log_notice(alloc: Global, text: JudgedText<'_>, line: u64, cause: MarkCause) -> Notice {
+pub fn log_notice(alloc: Global, source: &NoteSource<'_>, line: u64, cause: MarkCause) -> Notice {
+    let said = mark_cause_text(cause);
+    if let Command::Task(Task::Follow { .. }) = source.asked {
+        return source.followed.log_notice(line, cause, said);
+    }
     let why = LineCause::Marks(cause);
-    line_notice(alloc, text, line, why, mark_cause_text(cause))
+    line_notice(alloc, source.judged_text(), line, why, said)
 }
 
 /// Returns what there is to say about a text of books that does not settle, by its wrong line.

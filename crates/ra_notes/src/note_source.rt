@@ -1,6 +1,7 @@
 //! What notes are made of, besides the outcome of the command.
 use crate::note_texts::{FOLDER_INPUT, NO_INPUT};
 use crate::notice::Notice;
+use crate::progress::FollowedText;
 use ra_arguments::{Command, Task, UsageFault};
 
 /// What notes are made of, besides the outcome of the command.
@@ -12,10 +13,12 @@ pub struct NoteSource<'a> {
     pub asked: &'a Command<'a>,
     /// Why they ask for nothing, if that is so.
     pub fault: Option<&'a UsageFault<'a>>,
-    /// What was read, or `None` if there was no memory for it.
+    /// What was read, or `None` if there was no memory for it, or it was followed.
     pub seen: Option<&'a [u8]>,
     /// What `draw` and `settle` hand back: the text that they read.
     pub text: &'a [u8],
+    /// What is kept of a text that was followed.
+    pub followed: &'a FollowedText,
     /// Whether the input is a folder, which cannot be read.
     pub is_folder: bool,
     /// The last seed of a survey that was tried.

@@ -23,6 +23,10 @@ pub const NO_TEXT: &str = "a command-line argument is not valid UTF-8";
 /// What is said if the choices of the run are to be printed, and a message is repeated.
 pub const NO_WORD: &str = "the choices of this run cannot be written: one repeats a message";
 
+/// What is said of a trace that was followed and had to be complete, and is not.
+pub const LEFT_IN_TRACE: &str =
+    "not complete: no request was made, or something waits, holds, is queued or under way at the end";
+
 /// What is said if a trace or a mark log is too long.
 pub const TOO_MANY_BYTES: &str = "standard input has more than 16777216 bytes";
 

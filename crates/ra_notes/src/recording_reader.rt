@@ -1,6 +1,7 @@
 //! A reader that remembers what was read from it, so that a note can say where something is wrong.
 ghost use Rattle.std.specs.Prelude.{◌≡◌};
 
+use crate::given_options::is_given;
 use ra_script::MAX_SCRIPT;
 use ra_trace::{MAX_LINE, MAX_TEXT};
 use std::alloc::Global;
@@ -16,7 +17,7 @@ pub struct RecordedInput {
     most: usize,
     /// How many bytes were read.
     taken: usize,
-    /// Whether there was memory for the bytes.
+    /// Whether they are to be remembered, and there was memory for them.
     is_whole: bool,
     /// Whether the reader failed since it reads a folder.
     is_folder: bool,
@@ -32,7 +33,7 @@ impl RecordedInput {
 
     /// Returns the first bytes that were read, and what the reader showed after them. There are at most 16,777,344 by
     /// the command `check`, so a text that it checks is whole, and 65,537 by another one. Returns `None` if memory ran
-    /// out.
+    /// out, or if nothing is to be remembered.
     pub fn bytes(&self) -> Option<&[u8]> {
         if self.is_whole {
             Some(self.bytes.as_slice())
@@ -88,13 +89,16 @@ pub struct RecordingReader<R> {
 
 impl<R> RecordingReader<R> {
     /// Makes one of a reader, for a command with these arguments. The first is the program's name. It does not
-    /// allocate, and reads that follow do so for what they remember, unless memory runs out.
+    /// allocate, and reads that follow do so for what they remember, unless memory runs out. Of a text that is followed
+    /// nothing is remembered.
     pub fn new(alloc: Global, arguments: &[String], inner: R) -> RecordingReader<R>
         ensures { result.inner ≡ inner }
     {
         let most = match arguments.get(1) {
-            Some(command) if command.as_str() == "check" => RecordedInput::MAX_TEXT,
-            _ => RecordedInput::MAX_BYTES,
+            Some(command) if command.as_str() != "check" => RecordedInput::MAX_BYTES,
+            Some(_) if is_given(arguments, "follow") => 0,
+            Some(_) => RecordedInput::MAX_TEXT,
+            None => RecordedInput::MAX_BYTES,
         };
         RecordingReader {
             inner,
@@ -102,7 +106,7 @@ impl<R> RecordingReader<R> {
                 bytes: Vec::new(alloc),
                 most,
                 taken: 0,
-                is_whole: true,
+                is_whole: most > 0,
                 is_folder: false,
             },
         }

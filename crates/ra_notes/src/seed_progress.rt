@@ -42,6 +42,18 @@ impl<'a, N: Write> SeedProgress<'a, N> {
     pub fn last(&self) -> Option<u64> {
         self.last
     }
+
+    /// Makes a note that is empty so far. It does not allocate.
+    pub fn note(&self) -> Note {
+        Note::new(self.alloc)
+    }
+
+    /// Writes a note, but not if memory ran out for it. A failure of the writer is ignored.
+    pub fn say(&mut self, note: Note) {
+        if let Ok(Some(text)) = &note.finish() {
+            write_line(self.notes, text.as_str());
+        }
+    }
 }
 
 impl<'a, N: Write> Observer for SeedProgress<'a, N> {
@@ -62,15 +74,12 @@ impl<'a, N: Write> Observer for SeedProgress<'a, N> {
             .saturating_add(WORK_OF_A_RUN);
         if self.work >= WORK_OF_A_LINE {
             self.work = 0;
-            // The progress so far is not written if memory runs out. A failure of the writer is ignored.
-            let mut note = Note::new(self.alloc);
+            let mut note = self.note();
             note.number(self.done);
             push_number_in(&mut note, " seeds done, up to seed ", seed, ": ");
             note.number(self.finished);
             note.push(" finished");
-            if let Ok(Some(text)) = &note.finish() {
-                write_line(self.notes, text.as_str());
-            }
+            self.say(note);
         }
     }
 }

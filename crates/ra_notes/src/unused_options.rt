@@ -1,4 +1,4 @@
-//! Options of `sim` that are given but have no effect.
+//! Options that are given but have no effect.
 use crate::given_options::is_given;
 use crate::notice::write_line;
 use ra_arguments::{PolicyName, Task, sim_options};
@@ -23,9 +23,14 @@ fn policy_word(task: &Task<'_>) -> Option<&'static str> {
     }
 }
 
-/// Writes a line for each option of `sim` that is given for a task but has no effect. It does not allocate, and ignores
-/// a failure of the writer.
+/// Writes a line for each option that is given for a task but has no effect. It does not allocate, and ignores a failure
+/// of the writer.
 pub fn write_unused_options<N: Write>(arguments: &[String], task: &Task<'_>, notes: &mut N) {
+    if let Task::Check { .. } | Task::CheckMarks { .. } = task
+        && is_given(arguments, "every")
+    {
+        write_line(notes, "--every is ignored: only --follow uses it");
+    }
     let Some(policy) = policy_word(task) else {
         return;
     };

@@ -16,7 +16,11 @@ pub fn write_waiting_note<N: Write>(asked: &Command<'_>, notes: &mut N) {
         Command::Task(Task::Sim { .. } | Task::Survey(_) | Task::Cluster(_)) =>
             "reading a script from standard input: type it and then Ctrl-D, or redirect a file with < FILE",
         Command::Task(
-            Task::Check
+            Task::Check { .. }
+            | Task::Follow {
+                kind: InputKind::Trace,
+                ..
+            }
             | Task::Draw {
                 kind: InputKind::Trace,
                 ..
@@ -24,7 +28,11 @@ pub fn write_waiting_note<N: Write>(asked: &Command<'_>, notes: &mut N) {
         ) =>
             "reading a trace from standard input: type it and then Ctrl-D, or redirect a file with < FILE",
         Command::Task(
-            Task::CheckMarks
+            Task::CheckMarks { .. }
+            | Task::Follow {
+                kind: InputKind::Marks,
+                ..
+            }
             | Task::Draw {
                 kind: InputKind::Marks,
                 ..

@@ -168,11 +168,20 @@ each mark, or `invalid`, the first wrong line and the cause:
 
 Example: ra check --marks < service.log
 
+With --complete, the status is also 3 if nothing was requested, or if at the end
+a request waits or holds, a client is queued, or a message is under way.
+
+With --follow, the input may have any length, and may still be written. It is
+judged line by line, and the command ends at the first wrong line. With --every
+N, standard error says after each N lines how many requests and grants, or of a
+trace messages, came so far.
+
 Exit status:
   0  valid
   1  standard input or standard output failed
-  2  the command line was refused, or the input has more than 16777216 bytes
-  3  invalid";
+  2  the command line was refused, or the input has more than 16777216 bytes and
+     is not followed
+  3  invalid, or not complete";
 
 /// The help of the command `draw`, below its options.
 pub const DRAW_HELP: &str = "\

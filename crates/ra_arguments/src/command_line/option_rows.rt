@@ -232,12 +232,30 @@ const SETTLE_OPTIONS: &[OptionRow] = &[
     HELP,
 ];
 
-/// The option of the command `check`.
+/// The options of the command `check`.
 const CHECK_OPTIONS: &[OptionRow] = &[
     OptionRow {
         name: "marks",
         help: "Check the mark log of any lock service, not a trace",
         ..FLAG
+    },
+    OptionRow {
+        name: "complete",
+        help: "Fail, too, if nothing was asked for or something is left",
+        ..FLAG
+    },
+    OptionRow {
+        name: "follow",
+        help: "Read a text of any length, as it is written",
+        ..FLAG
+    },
+    OptionRow {
+        name: "every",
+        help: "With --follow, say after each so many lines what came",
+        defaults: &["0"],
+        hides_default: true,
+        values: Some("0 to 18446744073709551615"),
+        ..LONG
     },
     HELP,
 ];

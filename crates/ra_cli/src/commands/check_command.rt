@@ -1,7 +1,6 @@
 //! The command `check`, for traces and for mark logs.
 ghost use Rattle.std.specs.Prelude.{◌≡◌, ◌⊎◌, true, false};
 ghost use Rattle.ra_arguments.specs.declared.command_line.Task.{Task};
-ghost use Rattle.ra_cli.specs.Checks.{is_run, is_valid};
 ghost use Rattle.ra_cli.specs.Tasks.{Does};
 
 use crate::commands::marks_verdict_lines::marks_verdict_text;
@@ -10,77 +9,92 @@ use crate::output::{CommandOutcome, DONE, UNFINISHED, print_text, refuse};
 use crate::refusal_lines::CommandRefusal;
 use crate::remark::Remark;
 use ra_trace::{
-    Line, MarksVerdict, TraceError, Verdict, check_buffered_with_due, check_marks_buffered,
+    Line, MarksVerdict, TraceError, Verdict, check_buffered_with_end, check_marks_buffered_with_end,
 };
 use std::alloc::Global;
 use std::io::{BufRead, Write};
 
-/// Returns the outcome of a verdict that is printed. If it is that a line is wrong for its sends or its marks, `due` is
-/// the line that is due.
-fn outcome_of(verdict: &Verdict, due: Option<Line>) -> CommandOutcome
-    ensures { ((result.status ≡ 0) × (is_valid verdict.now ≡ true))
-        ⊎ ((result.status ≡ 3) × (is_valid verdict.now ≡ false)) }
+/// Returns the status of a text that passes the check or not.
+fn status_of(passes: bool) -> u8
+    ensures { ((result ≡ 0) × (passes ≡ true)) ⊎ ((result ≡ 3) × (passes ≡ false)) }
 {
-    match *verdict {
-        Verdict::Valid { messages, .. } => CommandOutcome {
-            status: DONE,
-            remark: Some(Remark::Ends { sent: messages }),
+    if passes { DONE } else { UNFINISHED }
+}
+
+/// Returns the outcome of a verdict that is printed, by which the text passes or not. If it is that a line is wrong for
+/// its sends or its marks, `due` is the line that is due.
+pub fn outcome_of(verdict: &Verdict, due: Option<Line>, passes: bool) -> CommandOutcome
+    ensures { ((result.status ≡ 0) × (passes ≡ true)) ⊎ ((result.status ≡ 3) × (passes ≡ false)) }
+{
+    let remark = match *verdict {
+        Verdict::Valid { messages, .. } => Remark::Ends {
+            sent: messages,
+            is_incomplete: !passes,
         },
-        Verdict::Invalid { line, cause } => CommandOutcome {
-            status: UNFINISHED,
-            remark: Some(Remark::NoTrace { line, cause, due }),
-        },
+        Verdict::Invalid { line, cause } => Remark::NoTrace { line, cause, due },
+    };
+    CommandOutcome {
+        status: status_of(passes),
+        remark: Some(remark),
     }
 }
 
-/// Returns the outcome of a verdict on a mark log that is printed.
-fn marks_outcome_of(verdict: &MarksVerdict) -> CommandOutcome
-    ensures { ((result.status ≡ 0) × (is_run verdict.now ≡ true))
-        ⊎ ((result.status ≡ 3) × (is_run verdict.now ≡ false)) }
+/// Returns the outcome of a verdict on a mark log that is printed, by which the log passes or not.
+pub fn marks_outcome_of(verdict: &MarksVerdict, passes: bool) -> CommandOutcome
+    ensures { ((result.status ≡ 0) × (passes ≡ true)) ⊎ ((result.status ≡ 3) × (passes ≡ false)) }
 {
-    match *verdict {
-        MarksVerdict::Valid { .. } => CommandOutcome {
-            status: DONE,
-            remark: Some(Remark::Ends { sent: 0 }),
+    let remark = match *verdict {
+        MarksVerdict::Valid { .. } => Remark::Ends {
+            sent: 0,
+            is_incomplete: !passes,
         },
-        MarksVerdict::Invalid { line, cause } => CommandOutcome {
-            status: UNFINISHED,
-            remark: Some(Remark::NoLog { line, cause }),
-        },
+        MarksVerdict::Invalid { line, cause } => Remark::NoLog { line, cause },
+    };
+    CommandOutcome {
+        status: status_of(passes),
+        remark: Some(remark),
     }
 }
 
-/// Checks the text of the reader, and writes the lines of its verdict.
-pub fn judge<R: BufRead, W: Write>(alloc: Global, reader: &mut R, writer: &mut W) -> CommandOutcome
-    ensures { Does Task.Check (R.remaining reader.old) (R.remaining reader.new)
+/// Checks the text of the reader, which may have to be complete, and writes the lines of its verdict.
+pub fn judge<R: BufRead, W: Write>(
+    alloc: Global,
+    complete: bool,
+    reader: &mut R,
+    writer: &mut W,
+) -> CommandOutcome
+    ensures { Does (Task.Check complete) (R.remaining reader.old) (R.remaining reader.new)
         (W.contents writer.old) (W.contents writer.new) result.status }
 {
     let mut due = None;
-    let verdict = match check_buffered_with_due(alloc, reader, &mut due) {
+    let mut passes = false;
+    let verdict = match check_buffered_with_end(alloc, reader, complete, &mut due, &mut passes) {
         Ok(verdict) => verdict,
         Err(fault) => return refuse(writer, CommandRefusal::Check(fault)),
     };
     match verdict_text(alloc, &verdict) {
-        Ok(text) => print_text(writer, text.as_bytes(), outcome_of(&verdict, due)),
+        Ok(text) => print_text(writer, text.as_bytes(), outcome_of(&verdict, due, passes)),
         Err(_) => refuse(writer, CommandRefusal::Check(TraceError::Memory)),
     }
 }
 
-/// Checks the mark log of the reader, and writes the lines of its verdict.
+/// Checks the mark log of the reader, which may have to be complete, and writes the lines of its verdict.
 pub fn judge_marks<R: BufRead, W: Write>(
     alloc: Global,
+    complete: bool,
     reader: &mut R,
     writer: &mut W,
 ) -> CommandOutcome
-    ensures { Does Task.CheckMarks (R.remaining reader.old) (R.remaining reader.new)
+    ensures { Does (Task.CheckMarks complete) (R.remaining reader.old) (R.remaining reader.new)
         (W.contents writer.old) (W.contents writer.new) result.status }
 {
-    let verdict = match check_marks_buffered(alloc, reader) {
+    let mut passes = false;
+    let verdict = match check_marks_buffered_with_end(alloc, reader, complete, &mut passes) {
         Ok(verdict) => verdict,
         Err(fault) => return refuse(writer, CommandRefusal::Check(fault)),
     };
     match marks_verdict_text(alloc, &verdict) {
-        Ok(text) => print_text(writer, text.as_bytes(), marks_outcome_of(&verdict)),
+        Ok(text) => print_text(writer, text.as_bytes(), marks_outcome_of(&verdict, passes)),
         Err(_) => refuse(writer, CommandRefusal::Check(TraceError::Memory)),
     }
 }

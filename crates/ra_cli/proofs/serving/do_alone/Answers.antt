@@ -33,6 +33,16 @@ returns-in-Task-CheckMarks-clause-does g c =
     let is = rw c.in-Task-CheckMarks.is at c.in-Task-CheckMarks.field-0-is in
     rw c.in-Task-CheckMarks.is (rw is c.judge_marks.ensures)
 
+pub returns-in-Task-Follow-clause-does : goal.returns-in-Task-Follow-clause-does
+returns-in-Task-Follow-clause-does g c =
+    let is = rw c.in-Task-Follow.is at c.in-Task-Follow.field-0-is in
+    rw c.in-Task-Follow.is (rw is c.follow_text.ensures.does)
+
+pub returns-in-Task-Follow-clause-told : goal.returns-in-Task-Follow-clause-told
+returns-in-Task-Follow-clause-told g c =
+    let is = rw c.in-Task-Follow.is at c.in-Task-Follow.field-0-is in
+    rw c.in-Task-Follow.is (rw is c.follow_text.ensures.told)
+
 pub returns-in-Task-Draw-clause-does : goal.returns-in-Task-Draw-clause-does
 returns-in-Task-Draw-clause-does g c =
     let is = rw c.in-Task-Draw.is at c.in-Task-Draw.field-0-is in

@@ -5,6 +5,7 @@ use Rattle.ra_trace.specs.Verdict.{IsVerdict}
 use Rattle.ra_trace.specs.declared.error.TraceError.{TraceError}
 use Rattle.ra_trace.specs.declared.error.TraceError.TheVariants.{Limit, Memory, Read}
 use Rattle.ra_trace.specs.Reading.{Judges as ShowsVerdict, PassesLimit, ReadsOn, StopsAfter}
+use Rattle.ra_trace.specs.Complete.{MeetsTrace}
 use Rattle.ra_arguments.specs.declared.command_line.Task.TheVariants as task
 use Rattle.ra_cli.specs.Checks.{RefusesCheck, is_valid, verdict_text}
 use Rattle.ra_cli.specs.declared.refusal_lines.CommandRefusal.TheVariants.{Check}
@@ -22,7 +23,7 @@ right (Invalid line why) is = absurd cc
 
 -- why it is not checked
 cause : (old new : Option (List ℕ)) (fault : TraceError) → (fault ≡ Read → ReadsOn 16777216 old new) → (fault ≡ Limit → PassesLimit 16777216 old new)
-    → (fault ≡ Memory → StopsAfter 16777216 old new) → RefusesCheck old new fault
+    → (fault ≡ Memory → StopsAfter 16777216 old new) → RefusesCheck 16777216 old new fault
 cause old new Read failed limit memory = failed refl
 cause old new Limit failed limit memory = limit refl
 cause old new Memory failed limit memory = inl (memory refl)
@@ -30,26 +31,27 @@ cause old new Memory failed limit memory = inl (memory refl)
 pub returns-in-Ok-verdict_text : goal.returns-in-Ok-verdict_text
 returns-in-Ok-verdict_text g c =
     let old = g.R.Read.remaining c.args.reader.now in
-    let new = g.R.Read.remaining c.check_buffered_with_due.new.reader in
+    let new = g.R.Read.remaining c.check_buffered_with_end.new.reader in
     let before = g.W.Write.contents c.args.writer.now in
     let after = g.W.Write.contents c.print_text.new.writer in
     let verdict = c.in-Ok.verdict in
+    let passes = c.check_buffered_with_end.new.passes in
     let known = c.in-Ok.ensures.checks in
-    if_judged task.Check old new before after c.print_text.result.status (verdict_text verdict) c.outcome_of.result.status (is_valid verdict ≡ true) (is_valid verdict ≡ false)
+    if_judged (task.Check c.args.complete) old new before after c.print_text.result.status (verdict_text verdict) c.outcome_of.result.status (passes ≡ true) (passes ≡ false)
     c.outcome_of.ensures
     (writes_as (verdict_text verdict) c.as_bytes.result.now c.outcome_of.result.status before after c.print_text.result.status c.print_text.result.status refl
     (c.as_bytes.ensures.value ∙ c.in-Ok-verdict_text.ensures) c.print_text.ensures)
-    (judges IsVerdict (ShowsVerdict 16777216) is_valid verdict_text Valid right 16777216 old new before after verdict true known.ok known.valid known.judged known.alone)
-    (judges IsVerdict (ShowsVerdict 16777216) is_valid verdict_text Valid right 16777216 old new before after verdict false known.ok known.valid known.judged known.alone)
-    (of_known old (λ input. IsVerdict input verdict) (λ input. IsPrintedBy task.Check input (verdict_text verdict)) (λ input h. (verdict, h, refl)) known.ok)
+    (judges IsVerdict (MeetsTrace c.args.complete) (ShowsVerdict 16777216) is_valid verdict_text Valid right 16777216 old new before after verdict passes true known.ok known.valid c.in-Ok.ensures.end known.judged)
+    (judges IsVerdict (MeetsTrace c.args.complete) (ShowsVerdict 16777216) is_valid verdict_text Valid right 16777216 old new before after verdict passes false known.ok known.valid c.in-Ok.ensures.end known.judged)
+    (of_known old (λ input. IsVerdict input verdict) (λ input. IsPrintedBy (task.Check c.args.complete) input (verdict_text verdict)) (λ input h. (verdict, h, refl)) known.ok)
 
 pub returns-in-Err : goal.returns-in-Err
 returns-in-Err g c =
     let fault = c.in-Err.fault in
-    if_refused_at_once task.Check _ _ _ _ _ (Check fault) _ c.refuse.ensures (λ writer. writer)
+    if_refused_at_once (task.Check c.args.complete) _ _ _ _ _ (Check fault) _ c.refuse.ensures (λ writer. writer)
     (fault, refl, cause _ _ fault (λ is. c.in-Err.ensures.checks.failed (ap Err is)) (λ is. c.in-Err.ensures.checks.limit (ap Err is)) (λ is. c.in-Err.ensures.checks.memory (ap Err is)))
 
 pub returns-in-Err-verdict_text : goal.returns-in-Err-verdict_text
 returns-in-Err-verdict_text g c =
-    if_refused_at_once task.Check _ _ _ _ _ (Check Memory) _ c.refuse-in-Err-verdict_text.ensures (λ writer. writer)
+    if_refused_at_once (task.Check c.args.complete) _ _ _ _ _ (Check Memory) _ c.refuse-in-Err-verdict_text.ensures (λ writer. writer)
     (Memory, refl, inr (c.in-Ok.verdict, c.in-Ok.ensures.checks.judged))

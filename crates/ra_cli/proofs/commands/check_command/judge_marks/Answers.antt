@@ -5,6 +5,7 @@ use Rattle.ra_trace.specs.Marks.{IsMarksVerdict}
 use Rattle.ra_trace.specs.declared.error.TraceError.{TraceError}
 use Rattle.ra_trace.specs.declared.error.TraceError.TheVariants.{Limit, Memory, Read}
 use Rattle.ra_trace.specs.MarksReading.{JudgesMarks, PassesMarksLimit, ReadsOnMarks, StopsAfterMarks}
+use Rattle.ra_trace.specs.Complete.{MeetsLog}
 use Rattle.ra_arguments.specs.declared.command_line.Task.TheVariants as task
 use Rattle.ra_cli.specs.Checks.{RefusesCheckOfMarks, is_run, marks_verdict_text}
 use Rattle.ra_cli.specs.declared.refusal_lines.CommandRefusal.TheVariants.{Check}
@@ -22,7 +23,7 @@ right (Invalid line why) is = absurd cc
 
 -- why it is not checked
 cause : (old new : Option (List ℕ)) (fault : TraceError) → (fault ≡ Read → ReadsOnMarks 16777216 old new) → (fault ≡ Limit → PassesMarksLimit 16777216 old new)
-    → (fault ≡ Memory → StopsAfterMarks 16777216 old new) → RefusesCheckOfMarks old new fault
+    → (fault ≡ Memory → StopsAfterMarks 16777216 old new) → RefusesCheckOfMarks 16777216 old new fault
 cause old new Read failed limit memory = failed refl
 cause old new Limit failed limit memory = limit refl
 cause old new Memory failed limit memory = inl (memory refl)
@@ -30,26 +31,27 @@ cause old new Memory failed limit memory = inl (memory refl)
 pub returns-in-Ok-marks_verdict_text : goal.returns-in-Ok-marks_verdict_text
 returns-in-Ok-marks_verdict_text g c =
     let old = g.R.Read.remaining c.args.reader.now in
-    let new = g.R.Read.remaining c.check_marks_buffered.new.reader in
+    let new = g.R.Read.remaining c.check_marks_buffered_with_end.new.reader in
     let before = g.W.Write.contents c.args.writer.now in
     let after = g.W.Write.contents c.print_text.new.writer in
     let verdict = c.in-Ok.verdict in
-    let known = c.in-Ok.ensures in
-    if_judged task.CheckMarks old new before after c.print_text.result.status (marks_verdict_text verdict) c.marks_outcome_of.result.status (is_run verdict ≡ true) (is_run verdict ≡ false)
+    let passes = c.check_marks_buffered_with_end.new.passes in
+    let known = c.in-Ok.ensures.checks in
+    if_judged (task.CheckMarks c.args.complete) old new before after c.print_text.result.status (marks_verdict_text verdict) c.marks_outcome_of.result.status (passes ≡ true) (passes ≡ false)
     c.marks_outcome_of.ensures
     (writes_as (marks_verdict_text verdict) c.as_bytes.result.now c.marks_outcome_of.result.status before after c.print_text.result.status c.print_text.result.status refl
     (c.as_bytes.ensures.value ∙ c.in-Ok-marks_verdict_text.ensures) c.print_text.ensures)
-    (judges IsMarksVerdict (JudgesMarks 16777216) is_run marks_verdict_text Valid right 16777216 old new before after verdict true known.ok known.valid known.judged known.alone)
-    (judges IsMarksVerdict (JudgesMarks 16777216) is_run marks_verdict_text Valid right 16777216 old new before after verdict false known.ok known.valid known.judged known.alone)
-    (of_known old (λ input. IsMarksVerdict input verdict) (λ input. IsPrintedBy task.CheckMarks input (marks_verdict_text verdict)) (λ input h. (verdict, h, refl)) known.ok)
+    (judges IsMarksVerdict (MeetsLog c.args.complete) (JudgesMarks 16777216) is_run marks_verdict_text Valid right 16777216 old new before after verdict passes true known.ok known.valid c.in-Ok.ensures.end known.judged)
+    (judges IsMarksVerdict (MeetsLog c.args.complete) (JudgesMarks 16777216) is_run marks_verdict_text Valid right 16777216 old new before after verdict passes false known.ok known.valid c.in-Ok.ensures.end known.judged)
+    (of_known old (λ input. IsMarksVerdict input verdict) (λ input. IsPrintedBy (task.CheckMarks c.args.complete) input (marks_verdict_text verdict)) (λ input h. (verdict, h, refl)) known.ok)
 
 pub returns-in-Err : goal.returns-in-Err
 returns-in-Err g c =
     let fault = c.in-Err.fault in
-    if_refused_at_once task.CheckMarks _ _ _ _ _ (Check fault) _ c.refuse.ensures (λ writer. writer)
-    (fault, refl, cause _ _ fault (λ is. c.in-Err.ensures.failed (ap Err is)) (λ is. c.in-Err.ensures.limit (ap Err is)) (λ is. c.in-Err.ensures.memory (ap Err is)))
+    if_refused_at_once (task.CheckMarks c.args.complete) _ _ _ _ _ (Check fault) _ c.refuse.ensures (λ writer. writer)
+    (fault, refl, cause _ _ fault (λ is. c.in-Err.ensures.checks.failed (ap Err is)) (λ is. c.in-Err.ensures.checks.limit (ap Err is)) (λ is. c.in-Err.ensures.checks.memory (ap Err is)))
 
 pub returns-in-Err-marks_verdict_text : goal.returns-in-Err-marks_verdict_text
 returns-in-Err-marks_verdict_text g c =
-    if_refused_at_once task.CheckMarks _ _ _ _ _ (Check Memory) _ c.refuse-in-Err-marks_verdict_text.ensures (λ writer. writer)
-    (Memory, refl, inr (c.in-Ok.verdict, c.in-Ok.ensures.judged))
+    if_refused_at_once (task.CheckMarks c.args.complete) _ _ _ _ _ (Check Memory) _ c.refuse-in-Err-marks_verdict_text.ensures (λ writer. writer)
+    (Memory, refl, inr (c.in-Ok.verdict, c.in-Ok.ensures.checks.judged))
