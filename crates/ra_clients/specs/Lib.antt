@@ -5,3 +5,4 @@ pub mod Times
 pub mod Clients
 pub mod Laws
 pub mod Told
+pub mod Table

@@ -1,12 +1,14 @@
 //! The clients of a host, as a pure machine: which names each holds or waits for, since when, and until when it waits.
 //!
 //! As yet this crate has the machine (specs/Clients) with its laws, and parts for its code: the names of one client,
-//! the numbers by which the book knows clients, the times at which they give up, and the limits.
+//! the numbers by which the book knows clients, the table of clients by number, the times at which they give up, and the
+//! limits.
 #![tactic(auto)]
 
 mod laws;
 mod limits;
 mod numbers;
+mod table;
 mod times;
 mod uses;
 
