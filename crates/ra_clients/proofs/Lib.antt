@@ -9,3 +9,4 @@ pub mod Leaving
 pub mod TimeOrder
 pub mod Once
 pub mod Told
+pub mod Shown

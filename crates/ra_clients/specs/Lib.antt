@@ -6,3 +6,4 @@ pub mod Clients
 pub mod Laws
 pub mod Told
 pub mod Table
+pub mod Shown

@@ -5,6 +5,7 @@
 //! limits.
 #![tactic(auto)]
 
+mod clients;
 mod laws;
 mod limits;
 mod numbers;

@@ -1,0 +1,51 @@
+//! What a host keeps of its clients, in tables. Their contracts say which state of the machine they show.
+ghost use Rattle.std.specs.Prelude.{◌≡◌, ℕ};
+ghost use Rattle.ra_host_text.specs.declared.answer.Answer.TheVariants.{Granted};
+ghost use Rattle.ra_clients.specs.Clients.{Clients};
+ghost use Rattle.ra_clients.specs.Clients as spec;
+
+use crate::table::{Client, connection_of, enter_at};
+use ra_stamp::Name;
+use std::collections::{BTreeMap, BTreeSet};
+
+/// What a host keeps of its clients. Contracts speak of each state of the machine that the tables show.
+#[derive(Drop)]
+pub struct ClientTables {
+    /// The time, in milliseconds since the start.
+    pub now: u64,
+    /// The numbers of connections.
+    pub number_of: BTreeMap<u64, u32>,
+    /// The connections that were closed, and have not ended.
+    pub closed: BTreeSet<u64>,
+    /// The clients by their numbers.
+    pub clients: BTreeMap<u32, Client>,
+}
+
+impl ClientTables {
+    ghost use Rattle.ra_clients.specs.Shown.{Shows, told_if_some};
+
+    /// The time is this now, unless it was later before. It does not allocate.
+    pub fn pass_time(&mut self, now: u64)
+        ensures { (s : Clients) → Shows self.old s → Shows self.new (spec.passes_time s now).clients }
+    {
+        if now <= self.now {
+            return;
+        }
+        self.now = now;
+    }
+
+    /// The node has let a client in to a name. Returns the connection to be told so, if the client waited and has one.
+    /// The cost is logarithmic in the number of clients, and linear in the names of this one. It does not allocate.
+    pub fn enter(&mut self, number: u32, name: &Name) -> Option<Option<u64>>
+        ensures shows { (s : Clients) (seq node : ℕ) → Shows self.old s
+            → Shows self.new (spec.enters s number name.now seq node).clients }
+        ensures tells { (s : Clients) (seq node : ℕ) → Shows self.old s
+            → (spec.enters s number name.now seq node).tells ≡ told_if_some result (Granted name.now seq node) }
+    {
+        let connection = connection_of(&self.clients, number);
+        if !enter_at(&mut self.clients, number, name, self.now) {
+            return None;
+        }
+        Some(connection)
+    }
+}
