@@ -61,8 +61,8 @@ pub fn read_command_line<'a>(alloc: Global, arguments: &'a [String]) -> CommandL
     ensures asks { Asks (map string_bytes arguments.now) result.asked }
     ensures cause { IsCauseWith (map string_bytes arguments.now) result.asked result.fault }
     ensures help { ShowsHelpOf
-        (helps_of ANSWER_HELP.now SIM_HELP.now CLUSTER_HELP.now CHECK_HELP.now DRAW_HELP.now NODE_HELP.now SETTLE_HELP.now
-        SUMMARY_HELP.now STATUS_HELP.now) (map string_bytes arguments.now) result.asked }
+        (helps_of ANSWER_HELP.now SIM_HELP.now CLUSTER_HELP.now CHECK_HELP.now DRAW_HELP.now NODE_HELP.now
+        SETTLE_HELP.now SUMMARY_HELP.now STATUS_HELP.now) (map string_bytes arguments.now) result.asked }
 {
     if is_command_alone(arguments, "node") {
         return CommandLine {
@@ -107,8 +107,8 @@ pub fn read_command_line<'a>(alloc: Global, arguments: &'a [String]) -> CommandL
 pub fn command_of<'a>(alloc: Global, arguments: &'a [String]) -> Command<'a>
     ensures asks { Asks (map string_bytes arguments.now) result }
     ensures help { ShowsHelpOf
-        (helps_of ANSWER_HELP.now SIM_HELP.now CLUSTER_HELP.now CHECK_HELP.now DRAW_HELP.now NODE_HELP.now SETTLE_HELP.now
-        SUMMARY_HELP.now STATUS_HELP.now) (map string_bytes arguments.now) result }
+        (helps_of ANSWER_HELP.now SIM_HELP.now CLUSTER_HELP.now CHECK_HELP.now DRAW_HELP.now NODE_HELP.now
+        SETTLE_HELP.now SUMMARY_HELP.now STATUS_HELP.now) (map string_bytes arguments.now) result }
 {
     read_command_line(alloc, arguments).asked
 }

@@ -541,8 +541,8 @@ pub fn parse<'a>(alloc: Global, arguments: &'a [String]) -> Result<Task<'a>, Arg
     ensures task { MatchResult result (AsksForTask (map string_bytes arguments.now))
         (IsArgumentsFault (map string_bytes arguments.now)) }
     ensures help { IfOk result (ShowsHelp
-        (helps_of ANSWER_HELP.now SIM_HELP.now CLUSTER_HELP.now CHECK_HELP.now DRAW_HELP.now NODE_HELP.now SETTLE_HELP.now
-        SUMMARY_HELP.now STATUS_HELP.now) (map string_bytes arguments.now)) }
+        (helps_of ANSWER_HELP.now SIM_HELP.now CLUSTER_HELP.now CHECK_HELP.now DRAW_HELP.now NODE_HELP.now
+        SETTLE_HELP.now SUMMARY_HELP.now STATUS_HELP.now) (map string_bytes arguments.now)) }
 {
     let Ok(parsed) = matches_of(alloc, arguments) else {
         return Err(ArgumentsFault::Memory);
@@ -577,8 +577,9 @@ fn is_help_kind(kind: ErrorKind) -> bool
 /// `AllocError`: there was no memory for it.
 fn help_text(alloc: Global, arguments: &[String], error: &ParseError) -> Result<String, AllocError>
     ensures { IfOk result (λ text. IsShown
-        (helps_of ANSWER_HELP.now SIM_HELP.now CLUSTER_HELP.now CHECK_HELP.now DRAW_HELP.now NODE_HELP.now SETTLE_HELP.now
-        SUMMARY_HELP.now STATUS_HELP.now) (map string_bytes arguments.now) (kind_of error.now) (string_bytes text)) }
+        (helps_of ANSWER_HELP.now SIM_HELP.now CLUSTER_HELP.now CHECK_HELP.now DRAW_HELP.now NODE_HELP.now
+        SETTLE_HELP.now SUMMARY_HELP.now STATUS_HELP.now) (map string_bytes arguments.now) (kind_of error.now)
+        (string_bytes text)) }
 {
     let mut text = format!(in alloc; "{error}")?;
     if let ErrorKind::DisplayHelp = error.kind() {
@@ -603,8 +604,8 @@ fn help_of<'a>(
     ensures task { MatchResult result (AsksForTask (map string_bytes arguments.now))
         (IsRefusedBy (map string_bytes arguments.now) error.now) }
     ensures help { IfOk result (ShowsHelp
-        (helps_of ANSWER_HELP.now SIM_HELP.now CLUSTER_HELP.now CHECK_HELP.now DRAW_HELP.now NODE_HELP.now SETTLE_HELP.now
-        SUMMARY_HELP.now STATUS_HELP.now) (map string_bytes arguments.now)) }
+        (helps_of ANSWER_HELP.now SIM_HELP.now CLUSTER_HELP.now CHECK_HELP.now DRAW_HELP.now NODE_HELP.now
+        SETTLE_HELP.now SUMMARY_HELP.now STATUS_HELP.now) (map string_bytes arguments.now)) }
 {
     if is_help_kind(error.kind()) {
         if !asks_for_help(arguments) {

@@ -399,8 +399,8 @@ fn settle_help() -> &'static str
 /// Returns the help of a command, below its options, or its summary, which names --help.
 fn help_on(kind: CommandKind, is_summary: bool) -> &'static str
     ensures { result.now ≡ help_of
-        (helps_of ANSWER_HELP.now SIM_HELP.now CLUSTER_HELP.now CHECK_HELP.now DRAW_HELP.now NODE_HELP.now SETTLE_HELP.now
-        SUMMARY_HELP.now STATUS_HELP.now) is_summary kind }
+        (helps_of ANSWER_HELP.now SIM_HELP.now CLUSTER_HELP.now CHECK_HELP.now DRAW_HELP.now NODE_HELP.now
+        SETTLE_HELP.now SUMMARY_HELP.now STATUS_HELP.now) is_summary kind }
 {
     match kind {
         _ if is_summary => SUMMARY_HELP,
@@ -442,8 +442,8 @@ fn asks_for_summary(arguments: &[String]) -> bool
 /// of the program. It does not allocate.
 pub fn help_below(arguments: &[String]) -> &'static str
     ensures { result.now ≡ spec.help_below
-        (helps_of ANSWER_HELP.now SIM_HELP.now CLUSTER_HELP.now CHECK_HELP.now DRAW_HELP.now NODE_HELP.now SETTLE_HELP.now
-        SUMMARY_HELP.now STATUS_HELP.now) (map string_bytes arguments.now) }
+        (helps_of ANSWER_HELP.now SIM_HELP.now CLUSTER_HELP.now CHECK_HELP.now DRAW_HELP.now NODE_HELP.now
+        SETTLE_HELP.now SUMMARY_HELP.now STATUS_HELP.now) (map string_bytes arguments.now) }
 {
     match row_named(arguments) {
         Some(row) => help_on(row.kind, asks_for_summary(arguments)),
