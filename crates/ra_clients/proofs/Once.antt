@@ -46,7 +46,7 @@ module _ (name : List ℕ) where
       ]
 
   -- nothing ends if there is no use of the name
-  stays : (us : List NameUse) → use_of name us ≡ None → without name us ≡ us
+  pub stays : (us : List NameUse) → use_of name us ≡ None → without name us ≡ us
   stays [] none = refl
   stays (x ∷ us) none =
       elim (cases_Bool (bytes_eq x.name name)) [

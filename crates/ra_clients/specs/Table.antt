@@ -42,8 +42,8 @@ pub record Disconnects (old : BTreeMap ℕ Client) (number : ℕ) (new : BTreeMa
   pub kept : (k : ℕ) → is_kept_at new k ≡ is_kept_at old k
 
 -- a client with this connection gets the number, and has no names yet
-pub record Joins (old : BTreeMap ℕ Client) (number : ℕ) (connection : Option ℕ) (is_kept : Bool) (new : BTreeMap ℕ Client)
-    : Type 0 where
+pub record Joins (old : BTreeMap ℕ Client) (number : ℕ) (connection : Option ℕ) (is_kept : Bool)
+    (new : BTreeMap ℕ Client) : Type 0 where
   pub uses : uses_at new number ≡ []
   pub connection_is : connection_at new number ≡ connection
   pub kept : is_kept_at new number ≡ is_kept

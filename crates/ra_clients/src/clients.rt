@@ -1,11 +1,12 @@
 //! What a host keeps of its clients, in tables. Their contracts say which state of the machine they show.
-ghost use Rattle.std.specs.Prelude.{◌≡◌, ℕ};
+ghost use Rattle.std.specs.Prelude.{◌≡◌, ℕ, IfOk, OnOk, OnErr};
 ghost use Rattle.ra_host_text.specs.declared.answer.Answer.TheVariants.{Granted};
 ghost use Rattle.ra_clients.specs.Clients.{Clients};
 ghost use Rattle.ra_clients.specs.Clients as spec;
 
-use crate::table::{Client, connection_of, enter_at};
-use ra_stamp::Name;
+use crate::table::{Client, connection_of, end_at, enter_at};
+use crate::uses::Standing;
+use ra_stamp::{Memory, Name};
 use std::collections::{BTreeMap, BTreeSet};
 
 /// What a host keeps of its clients. Contracts speak of each state of the machine that the tables show.
@@ -22,7 +23,7 @@ pub struct ClientTables {
 }
 
 impl ClientTables {
-    ghost use Rattle.ra_clients.specs.Shown.{Shows, told_if_some};
+    ghost use Rattle.ra_clients.specs.Shown.{Shows, ShowsTurn, told_if_some, unlock_does, unlock_tells};
 
     /// The time is this now, unless it was later before. It does not allocate.
     pub fn pass_time(&mut self, now: u64)
@@ -32,6 +33,41 @@ impl ClientTables {
             return;
         }
         self.now = now;
+    }
+
+    /// The client has said a line that is none. What it still says is passed over. Returns whether its connection is to
+    /// be closed, which it is once. The cost is logarithmic in the number of closed connections.
+    ///
+    /// # Errors
+    ///
+    /// `Memory`: nothing has changed.
+    pub fn close(&mut self, client: u64) -> Result<bool, Memory>
+        ensures shows { OnOk result ((s : Clients) → Shows self.old s → Shows self.new (spec.closes s client).clients) }
+        ensures closes { IfOk result
+            (λ closes. (s : Clients) → Shows self.old s → closes ≡ (spec.closes s client).closes) }
+        ensures err { OnErr result ((s : Clients) → Shows self.old s → Shows self.new s) }
+    {
+        Ok(self.closed.insert(client)?)
+    }
+
+    /// The client neither holds a name nor waits for it any more. Returns its number and what it made of the name: its
+    /// node is to give the name back, or to cancel it. Returns `Some(None)` if it made nothing of the name, which is to
+    /// be refused by `NotHeld`, and `None` if its connection is closed. The cost is logarithmic in the number of
+    /// clients, and linear in the names of this one. It does not allocate.
+    pub fn unlock(&mut self, client: u64, name: &Name) -> Option<Option<(u32, Standing)>>
+        ensures { (s : Clients) → Shows self.old s → ShowsTurn self.new (spec.unlocks s client name.now)
+            (unlock_tells client name.now result) (unlock_does name.now result) }
+    {
+        if self.closed.contains(&client) {
+            return None;
+        }
+        let Some(number) = self.number_of.get(&client).copied() else {
+            return Some(None);
+        };
+        let Some(used) = end_at(&mut self.clients, number, name) else {
+            return Some(None);
+        };
+        Some(Some((number, used.standing)))
     }
 
     /// The node has let a client in to a name. Returns the connection to be told so, if the client waited and has one.
