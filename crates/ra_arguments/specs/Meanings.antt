@@ -34,7 +34,7 @@ pub data Meaning : Type 0 where
   cluster : ClusterOutput → Meaning
   -- what is read, and whether its run has to be complete
   check : InputKind → (complete : Bool) → Meaning
-  -- the same of a text of any length, after how many lines each time it is told what they come to, or 0 for never
+  -- the same of a text that may be longer; after how many lines each time it is told what they come to, or 0 for never
   follow : InputKind → (every : ℕ) → (complete : Bool) → Meaning
   draw : InputKind → Part → Meaning
 
@@ -226,7 +226,7 @@ kind_in rows = if flag_in (codes "marks") rows then reads.Marks else reads.Trace
 abbrev pub every_in : List Row → ℕ
 every_in rows = unwrap_or (number_in 64 (codes "every") rows) 0
 
--- a text that is followed may be of any length
+-- a text that is followed may be longer
 abbrev pub check_in : List Row → Meaning
 check_in rows = if flag_in (codes "follow") rows
     then follow (kind_in rows) (every_in rows) (flag_in (codes "complete") rows)

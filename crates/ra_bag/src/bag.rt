@@ -248,7 +248,7 @@ impl Bag {
     ///
     /// If the message is where it was found, the cost is that of `at` for a place, plus that of removing it. Removing
     /// takes amortized constant time if the message is at an end, or if the bag counts its slots. It counts them after a
-    /// message was taken from between more than 512 others, or looked for among more than 64. Otherwise removing takes
+    /// message was taken from between at least 512 others, or looked for among more than 64. Otherwise removing takes
     /// time linear in the distance from the nearer end. If the message is not the first of equal ones, the bag has to
     /// learn anew in which slot each message is. If it is not there, the cost is that of `take`.
     #[inline(always)]

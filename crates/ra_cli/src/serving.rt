@@ -26,8 +26,9 @@ use std::sync::Wait;
 use std::thread::Threads;
 
 /// Does a command other than `cluster`, which [`run_by_threads`] does, and returns its outcome. It starts no thread,
-/// and waits only for the reader and the writer. The observer learns of each seed, and of each line of a text that is
-/// followed. A text to be drawn or settled is left in `text`, unless that is refused.
+/// and waits only for the reader and the writer. The observer is told of each seed; of a text that is followed it is
+/// shown each line, and told what the lines come to after each so many. A text to be drawn or settled is left in `text`,
+/// unless that is refused.
 pub fn do_alone<R: BufRead, W: Write, O: Observer + TraceWatcher + MarksWatcher>(
     alloc: Global,
     asked: &Command<'_>,
@@ -83,8 +84,8 @@ pub fn do_alone<R: BufRead, W: Write, O: Observer + TraceWatcher + MarksWatcher>
 /// - 0: done.
 /// - 1: a fault of the input or the output.
 /// - 2: refused.
-/// - 3: a run that ended with something left to do, a trace or a log that is not one or not as complete as demanded, or
-///   books that do not settle.
+/// - 3: a run that ended with something left to do, a trace or a log that is not one, or is not complete though it has
+///   to be, or books that do not settle.
 ///
 /// A refusal is printed as one line, `refused` and its word; `ra node` answers refused lines and goes on. No read or
 /// write that failed is tried again, and after a fault of the output nothing more is written. It waits only for the

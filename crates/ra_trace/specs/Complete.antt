@@ -31,7 +31,7 @@ are_complete marks table = nat_lt 0 (requests_in marks) && is_idle table
 abbrev pub AreComplete : List Mark → Bool → Type 0
 AreComplete marks complete = (table : LockTable) × TableRun marks table × (complete ≡ are_complete marks table)
 
--- what a log passes if nothing is demanded, and if it has to be complete
+-- whether a log that is a run passes: if nothing is demanded it does, and otherwise if it is complete
 abbrev pub PassesLog : (demanded : Bool) → List ℕ → Bool → Type 0
 PassesLog false text passes = passes ≡ true
 PassesLog true text passes =
@@ -55,7 +55,7 @@ IsCompleteBy n start moves table complete = (left : List Message) × LeavesUnder
     × (queued : ℕ) × AreQueued n start moves queued
     × (complete ≡ is_complete moves table (length left) queued)
 
--- what a trace passes if nothing is demanded, and if it has to be complete
+-- whether a trace of a run passes: if nothing is demanded it does, and otherwise if it is complete
 abbrev pub PassesTrace : (demanded : Bool) → List ℕ → Bool → Type 0
 PassesTrace false text passes = passes ≡ true
 PassesTrace true text passes = (version : Version) × (n start : ℕ) × (moves : List Move)
