@@ -26,9 +26,9 @@ use std::sync::Wait;
 use std::thread::Threads;
 
 /// Does a command other than `cluster`, which [`run_by_threads`] does, and returns its outcome. It starts no thread,
-/// and waits only for the reader and the writer. The observer is told of each seed; of a text that is followed it is
-/// shown each line, and told what the lines come to after each so many. A text to be drawn or settled is left in `text`,
-/// unless that is refused.
+/// and waits only for the reader and the writer. The observer is told of each seed. Of a text that is followed, it is
+/// shown each line, and told what the lines come to after each so many. A text to be drawn or settled is left in
+/// `text`, unless that is refused.
 pub fn do_alone<R: BufRead, W: Write, O: Observer + TraceWatcher + MarksWatcher>(
     alloc: Global,
     asked: &Command<'_>,
