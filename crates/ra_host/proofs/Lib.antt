@@ -21,3 +21,4 @@ mod ReadyNodes
 mod TurnsOfCalls
 mod ReplayedLinks
 mod SaidFrames
+mod Refusals

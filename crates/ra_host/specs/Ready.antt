@@ -1,12 +1,13 @@
 -- A host that is ready: its node is there, with the frames that others have not acknowledged.
-use Rattle.std.specs.Prelude.{◌≡◌, ℕ, ◌-◌, ◌≤◌, true, Some, slice_get, Option, None}
+use Rattle.std.specs.Prelude.{◌≡◌, ℕ, ◌-◌, ◌≤◌, true, Some, slice_get, Option, None, IsTrue}
+use Rattle.ra_frame.specs.declared.frame.Frame.{Frame}
 use Rattle.ra_node.specs.declared.outcome.Outcome.{Outcome}
 use Rattle.ra_link.specs.declared.link.Link.{Link}
 use Rattle.ra_book.specs.declared.book.event.BookKind.{BookKind}
 use Rattle.ra_book.specs.Book.{next_clock}
 use Rattle.ra_book.specs.History.{frames_at}
 use Rattle.ra_host.specs.declared.links.Links.{Links}
-use Rattle.ra_host.specs.Host.{Host, Happens, IsOther}
+use Rattle.ra_host.specs.Host.{Host, Happens, IsOther, is_taken}
 use Rattle.ra_host.specs.Outgoing.{Outgoing}
 use Rattle.ra_host.specs.Played.{IsPlayedOf, PlayedState}
 use Rattle.ra_host.specs.Running.{AreLinksOf}
@@ -28,6 +29,10 @@ pub record IsReadyWith (p : PlayedState) (h : Host) : Type 0 where
 pub record AreOf (links : Links) (p : PlayedState) (h : Host) : Type 0 where
   pub held : AreLinksOf links h
   pub ready : IsReadyWith p h
+
+-- the frame came from another host, whose next one it is, and names that host and this one
+abbrev pub IsNext : Host → ℕ → ℕ → ℕ → Frame → Type 0
+IsNext h j start number frame = IsOther h j × IsTrue (is_taken h j start number frame)
 
 -- the event happens at the host with this outcome, and then these are its links and its node
 pub record Happened (old : Host) (kind : BookKind) (outcome : Outcome) (links : Links) (p : PlayedState) : Type 0 where

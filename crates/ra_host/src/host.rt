@@ -1,17 +1,18 @@
 //! A host that is ready.
-ghost use Rattle.std.specs.Prelude.{◌≡◌, ◌↔◌, ◌⊎◌, ◌-◌, ℕ, Some, false, length, slice_get, IfSome, IfOk, IfErr, IsTrue, IsOk, IsErr, IsErrOf};
+ghost use Rattle.std.specs.Prelude.{◌≡◌, ◌↔◌, ◌⊎◌, ◌-◌, ℕ, Some, length, slice_get, IfSome, IfOk, IfErr, IsTrue, IsOk, IsErr, IsErrOf};
 ghost use Rattle.ra_automaton.specs.State.{IsOtherNode};
 ghost use Rattle.ra_frame.specs.Fits.{Fits};
 ghost use Rattle.ra_link.specs.Link as rule;
 ghost use Rattle.ra_book.specs.declared.book.event.BookKind.TheVariants as kinds;
 ghost use Rattle.ra_host.specs.Host as machine;
-ghost use Rattle.ra_host.specs.Host.{IsOther, IsOwn, connects, hears_ack, hears_hello, hears_welcome, is_taken, linked, Replays, ends, replays_book, syncs_book};
+ghost use Rattle.ra_host.specs.Host.{IsOther, IsOwn, connects, hears_ack, hears_hello, hears_welcome, linked, Replays, ends, replays_book, syncs_book};
+ghost use Rattle.ra_host.specs.Full.{is_full};
 ghost use Rattle.ra_host.specs.Played.{IsPlayedOf, RefusesEvent};
 ghost use Rattle.ra_book.specs.Book.{whole_events};
 ghost use Rattle.ra_book.specs.History.{clock_of};
 ghost use Rattle.ra_book.specs.Pairs.{sent_to};
 ghost use Rattle.ra_host.specs.Outgoing.{frame_for};
-ghost use Rattle.ra_host.specs.Ready.{AreOf, Happened, both};
+ghost use Rattle.ra_host.specs.Ready.{AreOf, Happened, IsNext, both};
 ghost use Rattle.ra_host.specs.Replaying.{DropsFew, MayReplay};
 ghost use Rattle.ra_host.specs.Running.{AreLinksOf};
 
@@ -222,6 +223,7 @@ impl Host {
         requires { IsOwn kind.now }
         ensures happened { IfOk result (λ outcome. (h : machine.Host) → AreOf self.old.links self.old.played h
             → Happened h kind.now outcome self.new.links self.new.played) }
+        ensures full { IsErrOf result EventError.Full ↔ IsTrue (is_full self.old.played.outgoing) }
         ensures refused { IfErr result (λ why. (self.new ≡ self.old)
             × RefusesEvent self.old.played kind.now why) }
     {
@@ -255,18 +257,23 @@ impl Host {
     ) -> Result<Outcome, EventError>
         requires { Fits frame.now }
         ensures next { IfOk result (λ _. (h : machine.Host) → AreOf self.old.links self.old.played h
-            → IsTrue (is_taken h other start number frame.now)) }
+            → IsNext h other start number frame.now) }
         ensures happened { IfOk result (λ outcome. (h : machine.Host)
             → AreOf self.old.links self.old.played h → Happened
             (linked h other (rule.hears_frame (h.links other) start number)) (kinds.Receive frame.now) outcome
             self.new.links self.new.played) }
-        ensures not_next { IsErrOf result EventError.NotNext → (h : machine.Host)
-            → AreOf self.old.links self.old.played h → IsOther h other
-            → is_taken h other start number frame.now ≡ false }
+        ensures not_next { (h : machine.Host) → AreOf self.old.links self.old.played h
+            → IsErrOf result EventError.NotNext ↔ (IsNext h other start number frame.now → ⊥) }
+        ensures full { (h : machine.Host) → AreOf self.old.links self.old.played h
+            → IsErrOf result EventError.Full
+            ↔ (IsNext h other start number frame.now × IsTrue (is_full self.old.played.outgoing)) }
         ensures refused { IfErr result (λ why. (self.new ≡ self.old)
             × ((why ≡ EventError.NotNext) ⊎ RefusesEvent self.old.played (kinds.Receive frame.now) why)) }
     {
-        let Ok(Heard::Next) = self.links.heard(other, start, number, frame) else {
+        let Ok(heard) = self.links.heard(other, start, number, frame) else {
+            return Err(EventError::NotNext);
+        };
+        let Heard::Next = heard else {
             return Err(EventError::NotNext);
         };
         let kind = BookKind::Receive(*frame);
