@@ -11,11 +11,11 @@ use Rattle.ra_book.specs.Book.{LeadsTo}
 use Rattle.ra_book.specs.Pairs.{sent_to}
 use Rattle.ra_host.specs.declared.links.Links.{Links}
 use Rattle.ra_host.specs.declared.outbox.Outbox.{Outbox}
-use Rattle.ra_host.specs.Host.{Host, IsOther, is_short, replays_book}
+use Rattle.ra_host.specs.Host.{Host, IsOther, MayReplay, is_short, replays_book}
 use Rattle.ra_host.specs.Outgoing.{Outgoing, drops, made_at, outgoing_of}
 use Rattle.ra_host.specs.Played.{IsPlayedOf, PlayedState}
 use Rattle.ra_host.specs.Ready.{AreOf, GoWith}
-use Rattle.ra_host.specs.Replaying.{DropsFew, MayReplay, acknowledged_at, replayed}
+use Rattle.ra_host.specs.Replaying.{DropsFew, acknowledged_at, replayed}
 use Rattle.ra_host.specs.Running.{AreLinksOf}
 use Rattle.ra_host.proofs.LinksHeld.{never_both, other_of, other_to}
 use Rattle.ra_host.proofs.OutgoingKept.{keeps_dropped}

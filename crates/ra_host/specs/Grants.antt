@@ -24,7 +24,7 @@ IsItsLeave entry (Cancel client name) = ⊥
 IsItsLeave entry (Receive frame) = ⊥
 IsItsLeave entry Forget = ⊥
 
--- the event may end the grant: the client leaves, or the host loses events of its book
+-- the event may end the grant: the client leaves, or the host crashes or its book is put back
 abbrev pub MayEnd : Entry → Event → Type 0
 MayEnd entry (Start nonce) = ⊥
 MayEnd entry (Connects j) = ⊥

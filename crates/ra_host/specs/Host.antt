@@ -154,9 +154,13 @@ is_short h j = link.replay_accuses (h.links j) (length (sent_to j h.book))
 abbrev pub replays_book : Host → Host
 replays_book h = record h { links = λ j. link.replays (h.links j) (length (sent_to j h.book)) }
 
+-- the host may replay its book, by each of its links
+abbrev pub MayReplay : Host → Type 0
+MayReplay h = (j : ℕ) → IsOther h j → link.may_replay (h.links j) ≡ true
+
 -- Once each other host has acknowledged by this start's nonce, it replays its book. It ends instead if a count shows
 -- that the book is old.
 pub record Replays (h : Host) (new : Host) : Type 0 where
-  pub may : (j : ℕ) → IsOther h j → link.may_replay (h.links j) ≡ true
+  pub may : MayReplay h
   pub new_is : (((j : ℕ) → IsOther h j → is_short h j ≡ false) × (new ≡ replays_book h))
       ⊎ ((j : ℕ) × IsOther h j × (is_short h j ≡ true) × (new ≡ ends h j))

@@ -1,5 +1,5 @@
 -- The end of a replay: what the links and the node are to be.
-use Rattle.std.specs.Prelude.{◌≡◌, ℕ, ◌-◌, ◌≤◌, true, not, ◌&&◌, if◌then◌else◌, Some, List, [], ◌∷◌, zero, suc, slice_get}
+use Rattle.std.specs.Prelude.{◌≡◌, ℕ, ◌-◌, ◌≤◌, not, ◌&&◌, if◌then◌else◌, Some, List, [], ◌∷◌, zero, suc, slice_get}
 use Rattle.ra_link.specs.declared.link.Link.{Link}
 use Rattle.ra_link.specs.Link as rule
 use Rattle.ra_host.specs.Host.{Host, IsOther}
@@ -15,10 +15,6 @@ acknowledged_at (l ∷ ls) (suc place) = acknowledged_at ls place
 -- the link after the replay, with this many frames
 abbrev pub replayed : Link → ℕ → Link
 replayed l count = if rule.may_replay l && not (rule.replay_accuses l count) then rule.replays l count else l
-
--- each host may be asked to replay
-abbrev pub MayReplay : Host → Type 0
-MayReplay h = (j : ℕ) → IsOther h j → rule.may_replay (h.links j) ≡ true
 
 -- the frames that are not kept are acknowledged
 abbrev pub DropsFew : PlayedState → Host → Type 0

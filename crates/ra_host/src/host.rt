@@ -5,7 +5,7 @@ ghost use Rattle.ra_frame.specs.Fits.{Fits};
 ghost use Rattle.ra_link.specs.Link as rule;
 ghost use Rattle.ra_book.specs.declared.book.event.BookKind.TheVariants as kinds;
 ghost use Rattle.ra_host.specs.Host as machine;
-ghost use Rattle.ra_host.specs.Host.{IsOther, IsOwn, connects, hears_ack, hears_hello, hears_welcome, linked, Replays, ends, replays_book, syncs_book};
+ghost use Rattle.ra_host.specs.Host.{IsOther, IsOwn, MayReplay, connects, hears_ack, hears_hello, hears_welcome, linked, Replays, ends, replays_book, syncs_book};
 ghost use Rattle.ra_host.specs.Full.{is_full};
 ghost use Rattle.ra_host.specs.Played.{IsPlayedOf, RefusesEvent};
 ghost use Rattle.ra_book.specs.Book.{whole_events};
@@ -13,7 +13,7 @@ ghost use Rattle.ra_book.specs.History.{clock_of};
 ghost use Rattle.ra_book.specs.Pairs.{sent_to};
 ghost use Rattle.ra_host.specs.Outgoing.{frame_for};
 ghost use Rattle.ra_host.specs.Ready.{AreOf, Happened, IsNext, both};
-ghost use Rattle.ra_host.specs.Replaying.{DropsFew, MayReplay};
+ghost use Rattle.ra_host.specs.Replaying.{DropsFew};
 ghost use Rattle.ra_host.specs.Running.{AreLinksOf};
 
 use crate::{CountError, EventError, Links, NoHost, Played};
@@ -36,13 +36,15 @@ pub struct Host {
 }
 
 impl Host {
-    /// Makes a ready host of its links and of the node that had the events of its book, once `Links::may_replay` says
-    /// so: the replay is over. Say the frames that others lack then. The cost is linear in the number of hosts, and of
-    /// the frames that were acknowledged since the replay began.
+    /// Makes a ready host of its links and of its node, once `Links::may_replay` says so: the replay is over. The node
+    /// had all events of the host's book, and dropped no frame that is not acknowledged. Say the frames that others
+    /// lack then. The cost is linear in the number of hosts, and of the frames that were acknowledged since the replay
+    /// began.
     ///
     /// # Errors
     ///
-    /// `OldBook`: a host has acknowledged more frames than are in the book. The host ends then.
+    /// `OldBook`: a host has acknowledged more frames than are in the book. The links and the node are gone, and the
+    /// host ends.
     pub fn ready(links: Links, played: Played) -> Result<Host, OldBook>
         ensures ok { IfOk result (λ host. (h : machine.Host) → AreLinksOf links h → IsPlayedOf played h.book
             → MayReplay h → DropsFew played h

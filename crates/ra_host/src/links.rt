@@ -5,11 +5,11 @@ ghost use Rattle.ra_book.specs.Book.{BookState};
 ghost use Rattle.ra_book.specs.History.{frames_at};
 ghost use Rattle.ra_automaton.specs.State.{IsOtherNode};
 ghost use Rattle.ra_link.specs.Link as rule;
-ghost use Rattle.ra_host.specs.Host.{Host, IsOther, begins, connects, hears_hello, hears_welcome, hears_ack, hears_old, is_short, is_taken, linked, makes_frames, replays_book, syncs_book};
+ghost use Rattle.ra_host.specs.Host.{Host, IsOther, MayReplay, begins, connects, hears_hello, hears_welcome, hears_ack, hears_old, is_short, is_taken, linked, makes_frames, replays_book, syncs_book};
 ghost use Rattle.ra_link.specs.declared.link.Link.{Link};
 ghost use Rattle.ra_host.specs.Outgoing.{made_at};
 ghost use Rattle.ra_host.specs.Played.{IsPlayedOf};
-ghost use Rattle.ra_host.specs.Replaying.{MayReplay, acknowledged_at, replayed};
+ghost use Rattle.ra_host.specs.Replaying.{acknowledged_at, replayed};
 ghost use Rattle.ra_host.specs.Making.{MayMake, makes_each};
 ghost use Rattle.ra_host.specs.Running.{AreLinksOf, HasTaken, names};
 
@@ -32,8 +32,8 @@ pub struct Links {
 
 impl Links {
     /// Makes the links of a new start of host `me`. `nonce` is one that no start of it had before, and `taken` says how
-    /// many frames of each host are in its book, which is on the disk. Ask each other host then. The cost is linear in
-    /// the number of hosts.
+    /// many frames of each host are in its book, which is on the disk. Say `hello` to each other host then. The cost is
+    /// linear in the number of hosts.
     ///
     /// # Errors
     ///
@@ -283,10 +283,9 @@ impl Links {
     }
 
     /// Returns whether the host may replay its book: each other host has acknowledged by this start's nonce, and the
-    /// book is not replayed yet. The cost is linear in the number of hosts.
+    /// book is not replayed yet. With one node it is always so. The cost is linear in the number of hosts.
     pub fn may_replay(&self) -> bool
-        ensures { (h : Host) → AreLinksOf self.now h → IsTrue result
-            ↔ ((j : ℕ) → IsOther h j → rule.may_replay (h.links j) ≡ true) }
+        ensures { (h : Host) → AreLinksOf self.now h → IsTrue result ↔ MayReplay h }
     {
         for place in 0..self.links.len() {
             let link = self.links[place];

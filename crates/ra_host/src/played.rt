@@ -46,8 +46,9 @@ impl Played {
     ghost use Rattle.ra_book.specs.Timed.{CanCome, opening};
     ghost use Rattle.ra_host.specs.Played.{IsPlayedOf, Plays, GoesOn, RefusesEvent};
 
-    /// Makes the node of a member, which has met nothing. Of the frames for each host it will not keep the first ones,
-    /// so many as `dropped` says. The cost is linear in the number of hosts.
+    /// Makes the node of a member, which has met nothing. `dropped` has a count for each host by number, also for the
+    /// node's own. Of the frames for a host it will not keep the first ones, as many as this count. The cost is linear
+    /// in the number of hosts.
     ///
     /// # Errors
     ///

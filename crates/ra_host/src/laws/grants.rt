@@ -17,8 +17,8 @@ use ra_node::{
 };
 
 /// Told is held: what an event at a host's node grants, its client holds by the host's book, until it leaves the name.
-/// So it is over whatever happens at all hosts, through ends and new starts, unless the host loses events of its book in
-/// a crash, or its book is put back.
+/// So it is over whatever happens at all hosts, through ends and new starts, unless the host crashes or its book is put
+/// back.
 pub fn what_is_granted_is_held_until_its_client_leaves()
     ensures granted { (h new : Host) (kind : BookKind) (entry : Entry) → HasHistory h.book
         → (event : Happens h kind new) → Contains event.marks (Entered entry) → IsHeld new entry }

@@ -15,9 +15,9 @@ ghost use Rattle.ra_host.specs.Outgoing.{frame_for};
 ghost use Rattle.ra_host.specs.Played.{PlayedState};
 ghost use Rattle.ra_host.specs.Ready.{AreOf};
 
-/// The definitions that the calls of `Links` and `Host` cite are turns of a host in the machine of all hosts: so what a
-/// program does by these calls is a run of its host there, and the laws of the machine hold of it. What it says is what
-/// its links say, and what it hears is what was said to it.
+/// The definitions that the calls of `Links` and `Host` cite are turns of a host in the machine of all hosts, if it
+/// hears only what was said to it, and says what its links say. So the laws of the machine hold of a program that makes
+/// these calls as its network and its disk go on. That a program does so is not proved.
 pub fn what_a_host_does_are_turns()
     ensures begins { (back : ℕ → List Packet) (h : Host) (nonce : ℕ) → h.up ≡ false
         → was_used nonce h.starts ≡ false → Turns back h (Event.Start nonce) (silent (begins h nonce)) }
@@ -62,8 +62,8 @@ pub fn what_a_host_does_are_turns()
         → Turns back h Event.Replays (silent new) }
 {}
 
-/// A ready host keeps each frame that is on its disk and not acknowledged, as it is in its book. So `Host::frame` returns
-/// it.
+/// A ready host keeps each frame that is on its disk and not acknowledged, as it is in its book. So `Host::frame`
+/// returns it.
 pub fn a_ready_host_keeps_what_others_lack()
     ensures { (links : Links) (p : PlayedState) (h : Host) (j number : ℕ) → AreOf links p h → IsOther h j
         → (h.links j).acknowledged < number → rule.may_say (h.links j) number ≡ true
