@@ -1,5 +1,5 @@
 //! The lines that a host writes.
-ghost use Rattle.std.specs.Prelude.{◌≡◌, ◌++◌, ◌↔◌, ℕ, List, codes, decimal, IsErr, OnErr, OnOk};
+ghost use Rattle.std.specs.Prelude.{◌≡◌, ◌≢◌, ◌++◌, ◌↔◌, ℕ, List, All, codes, decimal, IsErr, OnErr, OnOk};
 ghost use Rattle.ra_text.specs.Drafting.{Adds};
 ghost use Rattle.ra_text.specs.Lines.{field};
 ghost use Rattle.ra_host_text.specs.ClientText.{answer_text};
@@ -62,6 +62,7 @@ pub fn push_status_line(text: &mut Draft, client: u64, line: &StatusLine)
 
 /// Adds the line `client C TEXT`: a text is to be said to a client. It has no line feed.
 pub fn push_client_line(text: &mut Draft, client: u64, said: &str)
+    requires { All (λ byte. byte ≢ 10) said.now }
     ensures { Adds text.old (client_text client said.now ++ codes "\n") text.new }
 {
     push_client(text, "client", client);
@@ -86,6 +87,7 @@ pub fn push_ready_line(text: &mut Draft)
 
 /// Adds the line `note TEXT`: a note for the log. It has no line feed.
 pub fn push_note_line(text: &mut Draft, note: &str)
+    requires { All (λ byte. byte ≢ 10) note.now }
     ensures { Adds text.old (codes "note" ++ field note.now ++ codes "\n") text.new }
 {
     text.push("note");

@@ -30,7 +30,7 @@ pub enum StatusLine {
         host: NodeId,
         /// Whether a question to it is open.
         is_asked: bool,
-        /// Since when it has not been heard, or the question is open.
+        /// For how many milliseconds it has not been heard, or the question is open.
         since: u64,
         /// How many frames it has not acknowledged.
         unacknowledged: u64,
@@ -50,7 +50,7 @@ pub enum StatusLine {
         seq: u64,
         /// Its connection, unless it is a client of before the start.
         client: Option<u64>,
-        /// Since when it holds the name.
+        /// For how many milliseconds it holds the name.
         since: u64,
     },
     /// `waits NAME MODE C MS`: a client waits for a name, or is queued for it. C is `-` for a client of before the
@@ -62,7 +62,7 @@ pub enum StatusLine {
         mode: Mode,
         /// Its connection, unless it is a client of before the start.
         client: Option<u64>,
-        /// Since when it waits.
+        /// For how many milliseconds it waits.
         since: u64,
     },
     /// `greatest SEQ`: the greatest number that the node has met.
@@ -126,7 +126,7 @@ fn push_connection(text: &mut Draft, client: Option<u64>)
     }
 }
 
-/// Adds a client and since when it holds or waits.
+/// Adds a client, and for how many milliseconds it holds or waits.
 fn push_client_since(text: &mut Draft, client: Option<u64>, since: u64)
     ensures text { Adds text.old (field (connection_text client) ++ field (decimal since)) text.new }
     ensures fits { IsConnectionInRange client }
