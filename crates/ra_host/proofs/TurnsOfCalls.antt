@@ -1,5 +1,5 @@
 -- The definitions that calls cite, as turns of the machine.
-use Rattle.std.proofs.Common.{◌≡◌, ℕ, Bool, true, false, Option, Some, List, sym, subst}
+use Rattle.std.proofs.Common.{◌≡◌, ℕ, Bool, true, false, Option, Some, List, refl, sym, subst}
 use Rattle.std.specs.Prelude.{slice_get}
 use Rattle.ra_frame.specs.declared.frame.Frame.{Frame}
 use Rattle.ra_host.specs.Host.{Host, IsOther, TakesFrame, is_taken}
@@ -19,3 +19,6 @@ when_said back h j which p t up other said hears =
 pub when_taken : (h new : Host) (j start number : ℕ) (frame : Frame) → is_taken h j start number frame ≡ true → TakesFrame h j start number frame new
     → TakesOrNot (is_taken h j start number frame) h j start number frame new
 when_taken h new j start number frame is takes = subst (λ (b : Bool). TakesOrNot b h j start number frame new) (sym is) takes
+
+pub when_passed : (h : Host) (j start number : ℕ) (frame : Frame) → is_taken h j start number frame ≡ false → TakesOrNot (is_taken h j start number frame) h j start number frame h
+when_passed h j start number frame fails = subst (λ (b : Bool). TakesOrNot b h j start number frame h) (sym fails) refl

@@ -45,6 +45,10 @@ pub fn what_a_host_does_are_turns()
         → slice_get (back j) which ≡ Some (record { message = Frame start number; frame = Some frame })
         → is_taken h j start number frame ≡ true → TakesFrame h j start number frame new
         → Turns back h (Event.Comes j which) (silent new) }
+    ensures passed { (back : ℕ → List Packet) (h : Host) (j which start number : ℕ) (frame : BookFrame)
+        → h.up ≡ true → IsOther h j
+        → slice_get (back j) which ≡ Some (record { message = Frame start number; frame = Some frame })
+        → is_taken h j start number frame ≡ false → Turns back h (Event.Comes j which) (silent h) }
     ensures does { (back : ℕ → List Packet) (h new : Host) (kind : BookKind) → h.up ≡ true → IsOwn kind
         → Happens h kind new → Turns back h (Event.Does kind) (silent new) }
     ensures syncs { (back : ℕ → List Packet) (h : Host) → h.up ≡ true

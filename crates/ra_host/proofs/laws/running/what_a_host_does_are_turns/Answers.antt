@@ -5,7 +5,7 @@ use Rattle.ra_link.specs.Link as rule
 use Rattle.ra_book.specs.Pairs.{sent_to}
 use Rattle.ra_host.specs.Host.{begins, connects, hears_ack, hears_hello, hears_old, hears_welcome, syncs_book}
 use Rattle.ra_host.specs.Hosts.{Event, says, silent}
-use Rattle.ra_host.proofs.TurnsOfCalls.{when_down, when_said, when_taken, when_up}
+use Rattle.ra_host.proofs.TurnsOfCalls.{when_down, when_passed, when_said, when_taken, when_up}
 use Rattle.ra_host.proofs.laws.running.what_a_host_does_are_turns.Goals as goal
 
 pub returns : goal.returns
@@ -23,6 +23,8 @@ returns c =
           when_said back h j which (record { message = Old count; frame = frame }) (silent (hears_old h j count)) up other said refl;
       frame = λ back h new j which start number frame up other said yes takes.
           when_said back h j which (record { message = Frame start number; frame = Some frame }) (silent new) up other said (when_taken h new j start number frame yes takes, refl);
+      passed = λ back h j which start number frame up other said fails.
+          when_said back h j which (record { message = Frame start number; frame = Some frame }) (silent h) up other said (when_passed h j start number frame fails, refl);
       does = λ back h new kind up own happens. when_up back h (Event.Does kind) (silent new) up (own, happens, refl);
       syncs = λ back h up. when_up back h Event.Syncs (silent (syncs_book h)) up refl;
       says_hello = λ back h j up other. when_up back h (Event.Says_hello j) (says h j (rule.hello_of (h.links j)) None) up (other, refl);
