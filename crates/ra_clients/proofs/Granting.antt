@@ -87,6 +87,7 @@ module _ (c : ℕ) (name : List ℕ) (seq node : ℕ) where
         number = j;
         event = cc;
         connection = connection;
+        waited = subst (λ (n : List ℕ). waits_for n (s.uses_of j) ≡ true) its_name waiting;
         holds = subst (λ (n : List ℕ). IsHolder t.clients j n) its_name (record { use_now = held_use other s.now; is = held; holds = refl });
       }
 

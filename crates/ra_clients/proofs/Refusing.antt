@@ -1,7 +1,7 @@
--- A turn that tells a refusal changes nothing.
-use Rattle.std.proofs.Common.{◌≡◌, ℕ, false, List, Option, Some, None, refl, sym, ap, subst, ◌∙◌, inl, inr}
+-- A turn that tells a refusal changes nothing, but for one in which the node refuses a name.
+use Rattle.std.proofs.Common.{◌≡◌, ℕ, true, false, List, Option, Some, None, refl, sym, ap, subst, ◌∙◌, inl, inr}
 use Rattle.std.specs.Prelude.{Contains, nat_le}
-use Rattle.std.proofs.lemmas.Bool.{cond_both, or_parts}
+use Rattle.std.proofs.lemmas.Bool.{cond_both, false≢true, or_parts}
 use Rattle.ra_stamp.specs.declared.mode.Mode.{Mode}
 use Rattle.ra_host_text.specs.declared.answer.Answer.{Answer}
 use Rattle.ra_host_text.specs.declared.answer.Answer.TheVariants.{Granted, Timeout, Unlocked, Refused}
@@ -10,7 +10,7 @@ use Rattle.ra_clients.specs.declared.uses.NameUse.{NameUse}
 use Rattle.ra_clients.specs.Uses.{use_of, waits_for, lock_refusal}
 use Rattle.ra_clients.specs.Clients.{Limits, Clients, Turn, Event, Turns, IsUnused, told, is_full, numbered, asks_unless, locks_as, until_at, unlocks_use, unlocks_as}
 use Rattle.ra_clients.specs.Clients.Event.{Lock, Unlock, Bad, Refuse, Enter, Gone, Time, Release, Give_up, Give_back}
-use Rattle.ra_clients.specs.Laws.{ChangesNothing}
+use Rattle.ra_clients.specs.Laws.{ChangesNothing, IsRefusedByNode, IsTakenBack}
 use Rattle.ra_clients.proofs.Granting.{nothing_in, only_one}
 
 -- a client with no name yet is refused by no limit, if it may have one
@@ -22,7 +22,7 @@ module _ (c : ℕ) (name : List ℕ) (why : Refusal) where
   Tells t = Contains t.tells (c, Refused name why)
 
   abbrev Unchanged : Clients → Event → Turn → Type 0
-  Unchanged s e t = Tells t → ChangesNothing s e name why t
+  Unchanged s e t = Tells t → ChangesNothing s e c name why t
 
   -- another answer to whoever it is for
   not_granted : (o : Option ℕ) (other : List ℕ) (seq node : ℕ) → Contains (told o (Granted other seq node)) (c, Refused name why) → ⊥
@@ -33,19 +33,31 @@ module _ (c : ℕ) (name : List ℕ) (why : Refusal) where
   not_timeout None other has = nothing_in _ has
   not_timeout (Some d) other has = let same : Timeout other ≡ Refused name why = ap (λ (p : ℕ × Answer). p.1) (only_one _ _ has) in absurd (cc)
 
-  told_refusal : (o : Option ℕ) (other : List ℕ) (cause : Refusal) → Contains (told o (Refused other cause)) (c, Refused name why) → Refused other cause ≡ Refused name why
+  told_refusal : (o : Option ℕ) (other : List ℕ) (cause : Refusal) → Contains (told o (Refused other cause)) (c, Refused name why)
+      → (o ≡ Some c) × (Refused other cause ≡ Refused name why)
   told_refusal None other cause has = absurd (nothing_in _ has)
-  told_refusal (Some d) other cause has = ap (λ (p : ℕ × Answer). p.1) (only_one _ _ has)
+  told_refusal (Some d) other cause has = let same = only_one _ _ has in (ap (λ (p : ℕ × Answer). Some p.0) same, ap (λ (p : ℕ × Answer). p.1) same)
+
+  refused_by : (s : Clients) (j : ℕ) (other : List ℕ) (cause : Refusal) → waits_for other (s.uses_of j) ≡ true
+      → (s.connection_of j ≡ Some c) × (Refused other cause ≡ Refused name why) → IsRefusedByNode s (Refuse j other cause) c name why
+  refused_by s j other cause waiting (connection, same) =
+      let its_name : other ≡ name = cc in
+      record {
+        number = j;
+        event = cc;
+        connection = connection;
+        waited = subst (λ (n : List ℕ). waits_for n (s.uses_of j) ≡ true) its_name waiting;
+      }
 
   asks_nothing : (o : Option Refusal) (e : Event) (s : Clients) (d j : ℕ) (other : List ℕ) (mode : Mode) (until : Option ℕ) → Unchanged s e (asks_unless o s d j other mode until)
-  asks_nothing (Some cause) e s d j other mode until has = inl (refl, refl)
+  asks_nothing (Some cause) e s d j other mode until has = inl (refl, refl, refl)
   asks_nothing None e s d j other mode until has = absurd (nothing_in _ has)
 
   locks_nothing : (o : Option ℕ) (l : Limits) (unused : ℕ) (e : Event) (s : Clients) (d : ℕ) (other : List ℕ) (mode : Mode) (until : Option ℕ) → IsUnused s unused
       → Unchanged s e (locks_as o l unused s d other mode until)
   locks_nothing (Some j) l unused e s d other mode until is = asks_nothing (lock_refusal other l.names (s.uses_of j)) e s d j other mode until
   locks_nothing None l unused e s d other mode until is =
-      cond_both (is_full l s) _ _ (Unchanged s e) (λ _ has. inl (refl, refl))
+      cond_both (is_full l s) _ _ (Unchanged s e) (λ _ has. inl (refl, refl, refl))
       (λ room has.
       let none = fresh l s unused other is (or_parts (nat_le l.clients s.count) (nat_le l.names 0) room).1 in
       absurd
@@ -53,11 +65,11 @@ module _ (c : ℕ) (name : List ℕ) (why : Refusal) where
       (subst (λ (o : Option Refusal). Tells (asks_unless o (numbered s d unused) d unused other mode until)) none has)))
 
   unlocks_nothing : (o : Option NameUse) (e : Event) (s : Clients) (d j : ℕ) (other : List ℕ) → Unchanged s e (unlocks_use o s d j other)
-  unlocks_nothing None e s d j other has = inl (refl, refl)
+  unlocks_nothing None e s d j other has = inl (refl, refl, refl)
   unlocks_nothing (Some u) e s d j other has = let same : Unlocked other ≡ Refused name why = ap (λ (p : ℕ × Answer). p.1) (only_one _ _ has) in absurd (cc)
 
   unlock_nothing : (o : Option ℕ) (e : Event) (s : Clients) (d : ℕ) (other : List ℕ) → Unchanged s e (unlocks_as o s d other)
-  unlock_nothing None e s d other has = inl (refl, refl)
+  unlock_nothing None e s d other has = inl (refl, refl, refl)
   unlock_nothing (Some j) e s d other has = unlocks_nothing (use_of other (s.uses_of j)) e s d j other has
 
   never : (s : Clients) (e : Event) (t u : Turn) → t ≡ u → (Tells u → ⊥) → Unchanged s e t
@@ -76,7 +88,7 @@ module _ (c : ℕ) (name : List ℕ) (why : Refusal) where
   refused_nothing l s (Refuse j other cause) t is =
       subst (Unchanged s (Refuse j other cause)) (sym is)
       (cond_both (waits_for other (s.uses_of j)) _ _ (Unchanged s (Refuse j other cause))
-      (λ _ has. let same = told_refusal (s.connection_of j) other cause has in inr (j, (cc)))
+      (λ waiting has. inr (refused_by s j other cause waiting (told_refusal (s.connection_of j) other cause has)))
       (λ _ has. absurd (nothing_in _ has)))
   refused_nothing l s (Enter j other seq node) t is =
       never s _ t _ is
@@ -86,3 +98,11 @@ module _ (c : ℕ) (name : List ℕ) (why : Refusal) where
   refused_nothing l s Release t is = never s _ t _ is (nothing_in _)
   refused_nothing l s (Give_up j other) t is = never s _ t _ is.1 (not_timeout (s.connection_of j) other)
   refused_nothing l s (Give_back j other) t is = never s _ t _ is.1.2 (nothing_in _)
+
+-- what the node's refusal changes
+pub taken_back : (l : Limits) (s : Clients) (t : Turn) (k : ℕ) (name : List ℕ) (why : Refusal) → Turns l s (Refuse k name why) t → IsTakenBack s k name t
+taken_back l s t k name why is =
+    subst (IsTakenBack s k name) (sym is)
+    (cond_both (waits_for name (s.uses_of k)) _ _ (IsTakenBack s k name)
+    (λ waiting. record { waited = λ _. refl; not_waited = λ none. absurd (false≢true (sym none ∙ waiting)); does = refl; closes = refl })
+    (λ none. record { waited = λ waiting. absurd (false≢true (sym none ∙ waiting)); not_waited = λ _. refl; does = refl; closes = refl }))

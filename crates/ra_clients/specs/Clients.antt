@@ -104,11 +104,12 @@ locks l unused s c name mode within =
     if s.is_closed c then silent s
     else locks_as (s.number_of c) l unused s c name mode (until_at s.now within)
 
--- its node refuses what it has asked just now
+-- the answer goes to this connection, if there is one
 abbrev pub told : Option ℕ → Answer → List (ℕ × Answer)
 told None answer = []
 told (Some c) answer = (c, answer) ∷ []
 
+-- its node refuses a name; if the client waits for it, it waits no longer
 abbrev pub takes_back : Clients → ℕ → List ℕ → Refusal → Turn
 takes_back s k name why =
     if waits_for name (s.uses_of k)
@@ -209,13 +210,15 @@ pub record IsLeaving (s : Clients) (k : ℕ) : Type 0 where
   pub no_connection : s.connection_of k ≡ None
   pub not_kept : s.is_kept k ≡ false
 
+-- it may give its names back in any order
 abbrev pub gives_back : Clients → ℕ → List ℕ → Standing → Turn
 gives_back s k name standing = ends s k name standing []
 
 -- ---- All that may happen
 
 -- Clients say the first three. The node refuses what a client asked, or lets a client in. A connection ends, the time
--- passes, the host is told to release. The last two happen as long as they may.
+-- passes, the host is told to release. The last two can happen to a client whose time is over, and to one that leaves;
+-- nothing here says that they do.
 pub data Event : Type 0 where
   Lock : (c : ℕ) → (name : List ℕ) → (mode : Mode) → (within : Option ℕ) → Event
   Unlock : (c : ℕ) → (name : List ℕ) → Event

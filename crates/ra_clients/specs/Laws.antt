@@ -1,13 +1,13 @@
 -- What is true of the clients of a host, whatever happens.
-use Rattle.std.specs.Prelude.{◌≡◌, ◌≢◌, ◌⊎◌, ℕ, ◌≤◌, true, List, [], ◌∷◌, Some, None, Contains, length}
+use Rattle.std.specs.Prelude.{◌≡◌, ◌≢◌, ◌⊎◌, ℕ, ◌≤◌, true, false, List, [], ◌∷◌, Some, None, Contains, length}
 use Rattle.ra_book.specs.declared.book.event.BookKind.TheVariants.{Leave}
 use Rattle.ra_host_text.specs.declared.answer.Answer.TheVariants.{Granted, Unlocked}
 use Rattle.ra_host_text.specs.declared.answer.Refusal.{Refusal}
 use Rattle.ra_clients.specs.declared.uses.NameUse.{NameUse}
 use Rattle.ra_clients.specs.declared.uses.Standing.TheVariants.{Holds}
-use Rattle.ra_clients.specs.Uses.{use_of, waits}
-use Rattle.ra_clients.specs.Clients.{Limits, Clients, Turn, Turns, Event, given_back}
-use Rattle.ra_clients.specs.Clients.Event.{Refuse, Enter}
+use Rattle.ra_clients.specs.Uses.{use_of, waits, waits_for, without}
+use Rattle.ra_clients.specs.Clients.{Limits, Clients, Turn, Turns, Event, with_uses, given_back}
+use Rattle.ra_clients.specs.Clients.Event.{Refuse, Enter, Give_back}
 
 -- ---- What becomes of a use
 
@@ -45,11 +45,12 @@ IsAccountedFor before e k name t =
 abbrev pub TellsGranted : Turn → ℕ → List ℕ → ℕ → ℕ → Type 0
 TellsGranted t c name seq node = Contains t.tells (c, Granted name seq node)
 
--- its node let the client of this connection in, so that it holds the name
+-- the client of this connection waited for the name, and its node let it in, so that it holds the name
 pub record IsGrant (s : Clients) (e : Event) (c : ℕ) (name : List ℕ) (seq node : ℕ) (t : Turn) : Type 0 where
   pub number : ℕ
   pub event : e ≡ Enter number name seq node
   pub connection : s.connection_of number ≡ Some c
+  pub waited : waits_for name (s.uses_of number) ≡ true
   pub holds : IsHolder t.clients number name
 
 -- its client is told that it holds the name no longer
@@ -58,10 +59,24 @@ pub record TellsUnlocked (s : Clients) (k : ℕ) (name : List ℕ) (t : Turn) : 
   pub number : s.number_of client ≡ Some k
   pub tells_it : t.tells ≡ (client, Unlocked name) ∷ []
 
--- a turn that tells a refusal changes nothing, but that the node has refused what it was asked just now
-abbrev pub ChangesNothing : Clients → Event → List ℕ → Refusal → Turn → Type 0
-ChangesNothing s e name why t =
-    ((t.clients ≡ s) × (t.does ≡ None)) ⊎ ((k : ℕ) × (e ≡ Refuse k name why))
+-- its node has refused the name to the client of this connection, which waited for it
+pub record IsRefusedByNode (s : Clients) (e : Event) (c : ℕ) (name : List ℕ) (why : Refusal) : Type 0 where
+  pub number : ℕ
+  pub event : e ≡ Refuse number name why
+  pub connection : s.connection_of number ≡ Some c
+  pub waited : waits_for name (s.uses_of number) ≡ true
+
+-- a turn that tells a refusal changes nothing, unless the refusal is that of the node
+abbrev pub ChangesNothing : Clients → Event → ℕ → List ℕ → Refusal → Turn → Type 0
+ChangesNothing s e c name why t =
+    ((t.clients ≡ s) × (t.does ≡ None) × (t.closes ≡ false)) ⊎ IsRefusedByNode s e c name why
+
+-- If the client with this number waits for the name, the name goes. Nothing else changes.
+pub record IsTakenBack (s : Clients) (k : ℕ) (name : List ℕ) (t : Turn) : Type 0 where
+  pub waited : waits_for name (s.uses_of k) ≡ true → t.clients ≡ with_uses s k (without name (s.uses_of k))
+  pub not_waited : waits_for name (s.uses_of k) ≡ false → t.clients ≡ s
+  pub does : t.does ≡ None
+  pub closes : t.closes ≡ false
 
 -- ---- Many turns
 
@@ -77,9 +92,18 @@ NeverLeaves k name (e ∷ es) = (e.1.does ≢ Some (Leave k name)) × NeverLeave
 
 -- ---- Who has which number
 
--- the number of a connection is that of its client
+-- The number of a connection is that of its client, and no client with a connection is kept from before the start.
 pub record IsSound (s : Clients) : Type 0 where
   pub each : (c k : ℕ) → s.number_of c ≡ Some k → s.connection_of k ≡ Some c
+  pub not_kept : (c k : ℕ) → s.connection_of k ≡ Some c → s.is_kept k ≡ false
+
+-- There is a turn that gives the name back: the node is to give it back, or to cancel it if the client waits, and the
+-- client has its other names still.
+pub record CanGiveBack (l : Limits) (s : Clients) (k : ℕ) (name : List ℕ) (had : NameUse) : Type 0 where
+  pub turn : Turn
+  pub turns : Turns l s (Give_back k name) turn
+  pub does : turn.does ≡ Some (given_back k name had.standing)
+  pub others : turn.clients.uses_of k ≡ without name (s.uses_of k)
 
 -- the client has no more names than it may have
 abbrev pub IsWithin : Limits → Clients → ℕ → Type 0

@@ -6,12 +6,13 @@ ghost use Rattle.ra_host_text.specs.declared.answer.Refusal.{Refusal};
 ghost use Rattle.ra_clients.specs.declared.uses.NameUse.{NameUse};
 ghost use Rattle.ra_clients.specs.Uses.{use_of, without};
 ghost use Rattle.ra_clients.specs.Clients.{Limits, Clients, Event, IsLeaving, Turn, Turns};
+ghost use Rattle.ra_clients.specs.Clients.Event.{Gone, Refuse};
 ghost use Rattle.ra_clients.specs.Told.{AreDistinct, AreHeld, Holding, Step};
-ghost use Rattle.ra_clients.specs.Laws.{ChangesNothing, HoldsOrLeaves, IsAccountedFor, IsGrant, IsHolder, IsSound, IsWithin, Lead, NeverLeaves, TellsGranted, TellsUnlocked};
+ghost use Rattle.ra_clients.specs.Laws.{CanGiveBack, ChangesNothing, HoldsOrLeaves, IsAccountedFor, IsGrant, IsHolder, IsSound, IsTakenBack, IsWithin, Lead, NeverLeaves, TellsGranted, TellsUnlocked};
 
-/// Told is held: a client that is told `granted` holds the name, since its node let it in in this very turn. It holds
-/// the name until its node is to give it back. That comes only if the client is told `unlocked` in the same turn, or is
-/// gone, or is one of before the start that is released.
+/// Told is held: a client that is told `granted` waited for the name and holds it now, since its node let it in in this
+/// very turn. It holds the name until its node is to give it back. That comes only if the client is told `unlocked` in
+/// the same turn, or is gone, or is one of before the start that is released.
 pub fn what_is_told_is_held()
     ensures granted { (l : Limits) (s : Clients) (e : Event) (t : Turn) (c : ℕ) (name : List ℕ) (seq node : ℕ)
         → Turns l s e t → TellsGranted t c name seq node → IsGrant s e c name seq node t }
@@ -41,21 +42,29 @@ pub fn no_name_is_lost()
         → Turns l s e t → use_of name (s.uses_of k) ≡ Some had → IsAccountedFor had e k name t }
 {}
 
-/// Who is gone gives all names back: a client whose names are to be given back has no connection until it has no name.
-/// Each name that its node is to give back or to cancel is one name less.
+/// Who is gone can give all names back: from the turn in which its connection ends, the names of a client are to be
+/// given back until it has none. There is a turn for each of them, in which its node is to give it back or to cancel it,
+/// and then the client has one name less. That these turns happen is not said here.
 pub fn who_is_gone_gives_all_back()
     ensures sound { (l : Limits) (s : Clients) (e : Event) (t : Turn) → Turns l s e t → IsSound s → IsSound t.clients }
+    ensures gone { (l : Limits) (s : Clients) (t : Turn) (c k : ℕ) → Turns l s (Gone c) t → IsSound s
+        → s.number_of c ≡ Some k → IsLeaving t.clients k }
     ensures leaving { (l : Limits) (s : Clients) (e : Event) (t : Turn) (k : ℕ) → Turns l s e t → IsLeaving s k
         → s.uses_of k ≢ [] → IsLeaving t.clients k }
+    ensures given { (l : Limits) (s : Clients) (k : ℕ) (name : List ℕ) (had : NameUse) → IsLeaving s k
+        → use_of name (s.uses_of k) ≡ Some had → CanGiveBack l s k name had }
     ensures fewer { (name : List ℕ) (uses : List NameUse) (had : NameUse) → use_of name uses ≡ Some had
         → length (without name uses) + 1 ≡ length uses }
 {}
 
-/// A refusal changes nothing: if a client is told `refused`, all clients are as before, and the node is to do nothing.
-/// Only if the node has refused what it was asked just now, the name goes again.
+/// A refusal changes nothing: if a client is told `refused`, all clients are as before, the node is to do nothing, and
+/// no connection is closed. If it was the node that refused a name for which the client waited, this name goes, and
+/// nothing else changes.
 pub fn refusals_change_nothing()
-    ensures { (l : Limits) (s : Clients) (e : Event) (t : Turn) (c : ℕ) (name : List ℕ) (why : Refusal)
-        → Turns l s e t → Contains t.tells (c, Refused name why) → ChangesNothing s e name why t }
+    ensures told { (l : Limits) (s : Clients) (e : Event) (t : Turn) (c : ℕ) (name : List ℕ) (why : Refusal)
+        → Turns l s e t → Contains t.tells (c, Refused name why) → ChangesNothing s e c name why t }
+    ensures taken_back { (l : Limits) (s : Clients) (t : Turn) (k : ℕ) (name : List ℕ) (why : Refusal)
+        → Turns l s (Refuse k name why) t → IsTakenBack s k name t }
 {}
 
 /// No client has more names than it may have, unless it had them before the start.
