@@ -5,6 +5,7 @@ pub mod Granting
 pub mod Ending
 pub mod Refusing
 pub mod Limited
+pub mod Counted
 pub mod Leaving
 pub mod TimeOrder
 pub mod Once

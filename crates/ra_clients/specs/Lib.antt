@@ -3,6 +3,7 @@ pub mod Numbers
 pub mod NumberUse
 pub mod Times
 pub mod Clients
+pub mod Counts
 pub mod Laws
 pub mod Told
 pub mod Table

@@ -1,5 +1,5 @@
 //! What is true of the clients of a host, whatever happens. Each function does nothing, and its contract is the law.
-ghost use Rattle.std.specs.Prelude.{◌≡◌, ◌≢◌, ◌⊎◌, ◌+◌, ℕ, List, [], Option, Some, Contains, length};
+ghost use Rattle.std.specs.Prelude.{◌≡◌, ◌≢◌, ◌⊎◌, ◌+◌, ℕ, ◌≤◌, List, [], Option, Some, Contains, length};
 ghost use Rattle.ra_book.specs.declared.book.event.BookKind.TheVariants.{Leave};
 ghost use Rattle.ra_host_text.specs.declared.answer.Answer.TheVariants.{Refused};
 ghost use Rattle.ra_host_text.specs.declared.answer.Refusal.{Refusal};
@@ -7,6 +7,7 @@ ghost use Rattle.ra_clients.specs.declared.uses.NameUse.{NameUse};
 ghost use Rattle.ra_clients.specs.Uses.{use_of, without};
 ghost use Rattle.ra_clients.specs.Clients.{Limits, Clients, Event, IsLeaving, Turn, Turns};
 ghost use Rattle.ra_clients.specs.Clients.Event.{Gone, Refuse};
+ghost use Rattle.ra_clients.specs.Counts.{IsCounted};
 ghost use Rattle.ra_clients.specs.Told.{AreDistinct, AreHeld, Holding, Step};
 ghost use Rattle.ra_clients.specs.Laws.{CanGiveBack, ChangesNothing, HoldsOrLeaves, IsAccountedFor, IsGrant, IsHolder, IsSound, IsTakenBack, IsWithin, Lead, NeverLeaves, TellsGranted, TellsUnlocked};
 
@@ -67,8 +68,13 @@ pub fn refusals_change_nothing()
         → Turns l s (Refuse k name why) t → IsTakenBack s k name t }
 {}
 
-/// No client has more names than it may have, unless it had them before the start.
+/// No client has more names than it may have, unless it had them before the start. `count` is how many connections have
+/// a number, and there are never more of them than there may be.
 pub fn clients_keep_within_their_limit()
-    ensures { (l : Limits) (s : Clients) (e : Event) (t : Turn) (k : ℕ) → Turns l s e t → IsWithin l s k
+    ensures names { (l : Limits) (s : Clients) (e : Event) (t : Turn) (k : ℕ) → Turns l s e t → IsWithin l s k
         → IsWithin l t.clients k }
+    ensures counted { (l : Limits) (s : Clients) (e : Event) (t : Turn) → Turns l s e t → IsCounted s
+        → IsCounted t.clients }
+    ensures clients { (l : Limits) (s : Clients) (e : Event) (t : Turn) → Turns l s e t → s.count ≤ l.clients
+        → t.clients.count ≤ l.clients }
 {}
