@@ -2,6 +2,7 @@ pub mod UseLists
 pub mod NamedUses
 pub mod Holding
 pub mod Granting
+pub mod Asking
 pub mod Ending
 pub mod Refusing
 pub mod Limited
@@ -9,5 +10,6 @@ pub mod Counted
 pub mod Leaving
 pub mod TimeOrder
 pub mod Once
+pub mod Unlocking
 pub mod Told
 pub mod Shown

@@ -1,5 +1,6 @@
 -- What is true of the clients of a host, whatever happens.
-use Rattle.std.specs.Prelude.{◌≡◌, ◌≢◌, ◌⊎◌, ℕ, ◌≤◌, true, false, List, [], ◌∷◌, Some, None, Contains, length}
+use Rattle.std.specs.Prelude.{◌≡◌, ◌≢◌, ◌⊎◌, ℕ, ◌≤◌, true, false, List, [], ◌∷◌, Option, Some, None, Contains, length}
+use Rattle.ra_stamp.specs.declared.mode.Mode.{Mode}
 use Rattle.ra_book.specs.declared.book.event.BookKind.TheVariants.{Leave}
 use Rattle.ra_host_text.specs.declared.answer.Answer.TheVariants.{Granted, Unlocked}
 use Rattle.ra_host_text.specs.declared.answer.Refusal.{Refusal}
@@ -7,7 +8,7 @@ use Rattle.ra_clients.specs.declared.uses.NameUse.{NameUse}
 use Rattle.ra_clients.specs.declared.uses.Standing.TheVariants.{Holds}
 use Rattle.ra_clients.specs.Uses.{use_of, waits, waits_for, without}
 use Rattle.ra_clients.specs.Clients.{Limits, Clients, Turn, Turns, Event, with_uses, given_back}
-use Rattle.ra_clients.specs.Clients.Event.{Refuse, Enter, Give_back}
+use Rattle.ra_clients.specs.Clients.Event.{Lock, Unlock, Refuse, Enter, Give_back}
 
 -- ---- What becomes of a use
 
@@ -52,6 +53,24 @@ pub record IsGrant (s : Clients) (e : Event) (c : ℕ) (name : List ℕ) (seq no
   pub connection : s.connection_of number ≡ Some c
   pub waited : waits_for name (s.uses_of number) ≡ true
   pub holds : IsHolder t.clients number name
+
+-- The client of this connection has unlocked the name. It had it, and has it no longer.
+pub record IsUnlock (s : Clients) (e : Event) (c : ℕ) (name : List ℕ) (t : Turn) : Type 0 where
+  pub event : e ≡ Unlock c name
+  pub number : ℕ
+  pub number_is : s.number_of c ≡ Some number
+  pub had : NameUse
+  pub had_is : use_of name (s.uses_of number) ≡ Some had
+  pub does : t.does ≡ Some (given_back number name had.standing)
+  pub has_not : use_of name (t.clients.uses_of number) ≡ None
+
+-- the client with this number has asked for the name
+pub record IsAsked (e : Event) (k : ℕ) (name : List ℕ) (t : Turn) : Type 0 where
+  pub client : ℕ
+  pub mode : Mode
+  pub within : Option ℕ
+  pub event : e ≡ Lock client name mode within
+  pub number : t.clients.number_of client ≡ Some k
 
 -- its client is told that it holds the name no longer
 pub record TellsUnlocked (s : Clients) (k : ℕ) (name : List ℕ) (t : Turn) : Type 0 where

@@ -1,7 +1,7 @@
 //! What is true of the clients of a host, whatever happens. Each function does nothing, and its contract is the law.
-ghost use Rattle.std.specs.Prelude.{◌≡◌, ◌≢◌, ◌⊎◌, ◌+◌, ℕ, ◌≤◌, List, [], Option, Some, Contains, length};
+ghost use Rattle.std.specs.Prelude.{◌≡◌, ◌≢◌, ◌⊎◌, ◌+◌, ℕ, ◌≤◌, List, [], Option, Some, None, Contains, length};
 ghost use Rattle.ra_book.specs.declared.book.event.BookKind.TheVariants.{Leave};
-ghost use Rattle.ra_host_text.specs.declared.answer.Answer.TheVariants.{Refused};
+ghost use Rattle.ra_host_text.specs.declared.answer.Answer.TheVariants.{Refused, Unlocked};
 ghost use Rattle.ra_host_text.specs.declared.answer.Refusal.{Refusal};
 ghost use Rattle.ra_clients.specs.declared.uses.NameUse.{NameUse};
 ghost use Rattle.ra_clients.specs.Uses.{use_of, without};
@@ -9,7 +9,7 @@ ghost use Rattle.ra_clients.specs.Clients.{Limits, Clients, Event, IsLeaving, Tu
 ghost use Rattle.ra_clients.specs.Clients.Event.{Gone, Refuse};
 ghost use Rattle.ra_clients.specs.Counts.{IsCounted};
 ghost use Rattle.ra_clients.specs.Told.{AreDistinct, AreHeld, Holding, Step};
-ghost use Rattle.ra_clients.specs.Laws.{CanGiveBack, ChangesNothing, HoldsOrLeaves, IsAccountedFor, IsGrant, IsHolder, IsSound, IsTakenBack, IsWithin, Lead, NeverLeaves, TellsGranted, TellsUnlocked};
+ghost use Rattle.ra_clients.specs.Laws.{CanGiveBack, ChangesNothing, HoldsOrLeaves, IsAccountedFor, IsAsked, IsGrant, IsHolder, IsSound, IsTakenBack, IsUnlock, IsWithin, Lead, NeverLeaves, TellsGranted, TellsUnlocked};
 
 /// Told is held: a client that is told `granted` waited for the name and holds it now, since its node let it in in this
 /// very turn. It holds the name until its node is to give it back. That comes only if the client is told `unlocked` in
@@ -41,6 +41,17 @@ pub fn who_holds_a_name_holds_it_by_the_node()
 pub fn no_name_is_lost()
     ensures { (l : Limits) (s : Clients) (e : Event) (t : Turn) (k : ℕ) (name : List ℕ) (had : NameUse)
         → Turns l s e t → use_of name (s.uses_of k) ≡ Some had → IsAccountedFor had e k name t }
+{}
+
+/// No `granted` comes after `unlocked`, unless the client asks for the name again: a client that is told `unlocked` has
+/// unlocked the name, which it had, and has it no longer. It comes to have the name only in a turn in which it asks for
+/// it, and only one that waits for the name is told `granted` (`what_is_told_is_held`).
+pub fn unlocked_is_the_last_answer()
+    ensures unlocked { (l : Limits) (s : Clients) (e : Event) (t : Turn) (c : ℕ) (name : List ℕ) → Turns l s e t
+        → AreDistinct s → Contains t.tells (c, Unlocked name) → IsUnlock s e c name t }
+    ensures comes { (l : Limits) (s : Clients) (e : Event) (t : Turn) (k : ℕ) (name : List ℕ) → Turns l s e t
+        → use_of name (s.uses_of k) ≡ None
+        → (use_of name (t.clients.uses_of k) ≡ None) ⊎ IsAsked e k name t }
 {}
 
 /// Who is gone can give all names back: from the turn in which its connection ends, the names of a client are to be

@@ -15,7 +15,8 @@ mod uses;
 
 pub use laws::{
     clients_keep_within_their_limit, no_name_is_lost, refusals_change_nothing,
-    what_is_told_is_held, who_holds_a_name_holds_it_by_the_node, who_is_gone_gives_all_back,
+    unlocked_is_the_last_answer, what_is_told_is_held, who_holds_a_name_holds_it_by_the_node,
+    who_is_gone_gives_all_back,
 };
 pub use limits::Limits;
 pub use uses::{NameUse, Standing};
