@@ -9,6 +9,7 @@ use Rattle.ra_clients.specs.Uses.{use_of, waits_for, lock_refusal}
 use Rattle.ra_clients.specs.Clients.{Limits, Clients, Turn, Event, Turns, is_full, numbered, asks_unless, locks_as, until_at, unlocks_use, unlocks_as, unconnected}
 use Rattle.ra_clients.specs.Clients.Event.{Lock, Unlock, Bad, Refuse, Enter, Gone, Time, Release, Give_up, Give_back}
 use Rattle.ra_clients.specs.Counts.{one_if_some, numbered_below, IsCounted}
+use Rattle.ra_clients.specs.Laws.{IsUnconnected}
 
 -- ---- Counting
 
@@ -163,6 +164,9 @@ module _ (l : Limits) where
     counts Release t is = subst CountsIn (sym is) (counts_same s _ refl refl)
     counts (Give_up j name) t is = subst CountsIn (sym is.1) (counts_same s _ refl refl)
     counts (Give_back j name) t is = subst CountsIn (sym is.1.2) (counts_same s _ refl refl)
+
+pub starts_counted : (s : Clients) → IsUnconnected s → IsCounted s
+starts_counted s is = record { bound = 0; none_later = λ c late. is.no_number c; count_is = is.count_is }
 
 pub counted_after : (l : Limits) (s : Clients) (e : Event) (t : Turn) → Turns l s e t → IsCounted s → IsCounted t.clients
 counted_after l s e t is = (counts l s e t is).counted

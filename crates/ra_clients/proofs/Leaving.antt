@@ -8,7 +8,7 @@ use Rattle.ra_clients.specs.declared.uses.NameUse.{NameUse}
 use Rattle.ra_clients.specs.Uses.{use_of, waits_for, without, lock_refusal}
 use Rattle.ra_clients.specs.Clients.{Limits, Clients, Turn, Event, Turns, IsUnused, IsLeaving, is_full, numbered, asks_unless, locks_as, until_at, unlocks_use, unlocks_as, unconnected, gives_back}
 use Rattle.ra_clients.specs.Clients.Event.{Lock, Unlock, Bad, Refuse, Enter, Gone, Time, Release, Give_up, Give_back}
-use Rattle.ra_clients.specs.Laws.{CanGiveBack, IsSound}
+use Rattle.ra_clients.specs.Laws.{CanGiveBack, IsSound, IsUnconnected}
 use Rattle.ra_clients.proofs.Holding.{at_same}
 use Rattle.ra_clients.proofs.NamedUses.{none_some}
 
@@ -171,6 +171,12 @@ module _ (k : ℕ) (s : Clients) where
       subst KeepsIn (sym is) (keeps_same k s _ (record { number = λ d. refl; connection = λ i. refl; kept = λ i is. refl }))
   keeps l (Give_up j name) t is = subst KeepsIn (sym is.1) (keeps_same k s _ (record { number = λ d. refl; connection = λ i. refl; kept = λ i is. is }))
   keeps l (Give_back j name) t is = subst KeepsIn (sym is.1.2) (keeps_same k s _ (record { number = λ d. refl; connection = λ i. refl; kept = λ i is. is }))
+
+pub starts_sound : (s : Clients) → IsUnconnected s → IsSound s
+starts_sound s is = record {
+  each = λ c k its. absurd (none_some k (sym (is.no_number c) ∙ its));
+  not_kept = λ c k its. absurd (none_some c (sym (is.no_connection k) ∙ its));
+}
 
 pub sound_after : (l : Limits) (s : Clients) (e : Event) (t : Turn) → Turns l s e t → IsSound s → IsSound t.clients
 sound_after l s e t is sound = (keeps 0 s l e t is).sound sound

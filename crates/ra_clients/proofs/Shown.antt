@@ -1,9 +1,9 @@
 -- What the fields show after a change.
-use Rattle.std.proofs.Common.{◌≡◌, ◌≢◌, ℕ, Bool, true, false, cond, List, [], ◌∷◌, ◌++◌, Option, Some, None, refl, sym, ap, subst, ◌∙◌, inl, inr}
+use Rattle.std.proofs.Common.{◌≡◌, ℕ, Bool, true, false, cond, List, [], ◌∷◌, Option, Some, None, refl, sym, ap, subst, ◌∙◌, inl, inr}
 use Rattle.std.specs.BTreeMap.{BTreeMap, btree_map_len, get}
 use Rattle.std.specs.BTreeSet.{BTreeSet, contains}
 use Rattle.std.specs.Ordering.{nat_cmp}
-use Rattle.std.proofs.lemmas.Bool.{cases_Bool, cases_eq, cond_both, false≢true}
+use Rattle.std.proofs.lemmas.Bool.{cases_eq, cond_both, false≢true}
 use Rattle.ra_host_text.specs.declared.answer.Answer.{Answer}
 use Rattle.ra_book.specs.declared.book.event.BookKind.{BookKind}
 use Rattle.ra_host_text.specs.declared.answer.Answer.TheVariants.{Granted, Refused, Unlocked}
@@ -13,7 +13,7 @@ use Rattle.ra_clients.specs.declared.clients.ClientTables.{ClientTables}
 use Rattle.ra_clients.specs.Uses.{use_of, waits_for, let_in, without}
 use Rattle.ra_clients.specs.Clients.{Clients, Turn, with_uses, enters, silent, tells, told, ends, given_back, unlocks, unlocks_as, unlocks_use}
 use Rattle.ra_clients.specs.Table.{uses_at, connection_at, Changes}
-use Rattle.ra_clients.specs.Shown.{Shows, ShowsTurn, told_if_some}
+use Rattle.ra_clients.specs.Shown.{Shows, ShowsTurn}
 use Rattle.ra_clients.proofs.Holding.{at_other, at_same}
 use Rattle.ra_clients.proofs.Once.{stays}
 

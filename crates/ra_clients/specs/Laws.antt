@@ -116,6 +116,12 @@ pub record IsSound (s : Clients) : Type 0 where
   pub each : (c k : ℕ) → s.number_of c ≡ Some k → s.connection_of k ≡ Some c
   pub not_kept : (c k : ℕ) → s.connection_of k ≡ Some c → s.is_kept k ≡ false
 
+-- no client has a connection, as at the start
+pub record IsUnconnected (s : Clients) : Type 0 where
+  pub no_number : (c : ℕ) → s.number_of c ≡ None
+  pub no_connection : (k : ℕ) → s.connection_of k ≡ None
+  pub count_is : s.count ≡ 0
+
 -- There is a turn that gives the name back: the node is to give it back, or to cancel it if the client waits, and the
 -- client has its other names still.
 pub record CanGiveBack (l : Limits) (s : Clients) (k : ℕ) (name : List ℕ) (had : NameUse) : Type 0 where

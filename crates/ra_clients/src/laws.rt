@@ -9,7 +9,7 @@ ghost use Rattle.ra_clients.specs.Clients.{Limits, Clients, Event, IsLeaving, Tu
 ghost use Rattle.ra_clients.specs.Clients.Event.{Gone, Refuse};
 ghost use Rattle.ra_clients.specs.Counts.{IsCounted};
 ghost use Rattle.ra_clients.specs.Told.{AreDistinct, AreHeld, Holding, Step};
-ghost use Rattle.ra_clients.specs.Laws.{CanGiveBack, ChangesNothing, HoldsOrLeaves, IsAccountedFor, IsAsked, IsGrant, IsHolder, IsSound, IsTakenBack, IsUnlock, IsWithin, Lead, NeverLeaves, TellsGranted, TellsUnlocked};
+ghost use Rattle.ra_clients.specs.Laws.{CanGiveBack, ChangesNothing, HoldsOrLeaves, IsAccountedFor, IsAsked, IsGrant, IsHolder, IsSound, IsTakenBack, IsUnconnected, IsUnlock, IsWithin, Lead, NeverLeaves, TellsGranted, TellsUnlocked};
 
 /// Told is held: a client that is told `granted` waited for the name and holds it now, since its node let it in in this
 /// very turn. It holds the name until its node is to give it back. That comes only if the client is told `unlocked` in
@@ -58,6 +58,7 @@ pub fn unlocked_is_the_last_answer()
 /// given back until it has none. There is a turn for each of them, in which its node is to give it back or to cancel it,
 /// and then the client has one name less. That these turns happen is not said here.
 pub fn who_is_gone_gives_all_back()
+    ensures starts { (s : Clients) → IsUnconnected s → IsSound s }
     ensures sound { (l : Limits) (s : Clients) (e : Event) (t : Turn) → Turns l s e t → IsSound s → IsSound t.clients }
     ensures gone { (l : Limits) (s : Clients) (t : Turn) (c k : ℕ) → Turns l s (Gone c) t → IsSound s
         → s.number_of c ≡ Some k → IsLeaving t.clients k }
@@ -84,6 +85,7 @@ pub fn refusals_change_nothing()
 pub fn clients_keep_within_their_limit()
     ensures names { (l : Limits) (s : Clients) (e : Event) (t : Turn) (k : ℕ) → Turns l s e t → IsWithin l s k
         → IsWithin l t.clients k }
+    ensures starts { (s : Clients) → IsUnconnected s → IsCounted s }
     ensures counted { (l : Limits) (s : Clients) (e : Event) (t : Turn) → Turns l s e t → IsCounted s
         → IsCounted t.clients }
     ensures clients { (l : Limits) (s : Clients) (e : Event) (t : Turn) → Turns l s e t → s.count ≤ l.clients

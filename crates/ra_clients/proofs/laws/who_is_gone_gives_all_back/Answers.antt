@@ -1,6 +1,9 @@
-use Rattle.ra_clients.proofs.Leaving.{can_give_back, gone_leaves, leaving_after, sound_after}
+use Rattle.ra_clients.proofs.Leaving.{can_give_back, gone_leaves, leaving_after, sound_after, starts_sound}
 use Rattle.ra_clients.proofs.NamedUses.{one_less}
 use Rattle.ra_clients.proofs.laws.who_is_gone_gives_all_back.Goals as goal
+
+pub returns-clause-starts : goal.returns-clause-starts
+returns-clause-starts c = starts_sound
 
 pub returns-clause-sound : goal.returns-clause-sound
 returns-clause-sound c = sound_after
