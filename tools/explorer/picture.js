@@ -16,9 +16,20 @@ export function showPicture(view) {
     }
     offer("svg", view.picture.out, "image/svg+xml");
     const svg = new DOMParser().parseFromString(view.picture.out, "image/svg+xml").documentElement;
+    leaveOutEnd(svg);
     place.replaceChildren(document.importNode(svg, true));
     cutPicture();
     scrollToLast(view.trace);
+}
+
+// Leaves out the texts below the rows, which tell who holds and who waits: the page itself does. A saved picture has them.
+function leaveOutEnd(svg) {
+    const texts = [...svg.querySelectorAll("text.end")];
+    if (!texts.length) return;
+    const [left, top, wide, high] = svg.getAttribute("viewBox").split(" ").map(Number);
+    const heading = Math.min(...texts.map((text) => Number(text.getAttribute("y"))));
+    for (const text of texts) text.remove();
+    svg.setAttribute("viewBox", `${left} ${top} ${wide} ${Math.min(high, heading - 16)}`);
 }
 
 // Scrolls a great picture to the row and the lane of the last step.
