@@ -24,7 +24,7 @@ const AFTER_OTHERS: &[Note] = &[
             5,
             Wrong::Marks(MarkCause::Earlier),
         ),
-        "line 5, 'enter 2 8 r S 1': said of all: client 7 at node 1 asked for 'r' (X) in line 3",
+        "line 5, 'enter 2 8 r S 1': said of all: client 7 at node 1 asked for 'r' (X) in line 3 and goes first, since both have number 1 and node 1 is below 2",
     ),
     // The longest mark is due.
     Note(
