@@ -116,7 +116,7 @@ const AFTER_OTHERS: &[Note] = &[
             6,
             Wrong::Marks(MarkCause::NotHeld),
         ),
-        "line 6, 'leave 4 6 r S 1': said of all: it was never requested; client 9 at node 3 has held 'r' (S) since line 4, with number 3",
+        "line 6, 'leave 4 6 r S 1': said of all: it was never requested; client 9 at node 3 has held 'r' (S) since line 4, with number 3, and 1 more",
     ),
     Note(
         Field(
