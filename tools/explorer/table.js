@@ -33,28 +33,31 @@ export function waitsOf(state) {
 }
 
 // Two nodes may each have a client with the same number.
-const keyOf = ({node, client}) => `${node} ${client}`;
+const clientOf = ({node, client}) => `${node} ${client}`;
 
-// Returns clients that wait for each other in a circle, or null. Of each, it has the wait, and the next one, which is in its way. A client
-// may wait for several names, and each of its waits counts.
+// Returns a deadlock as a circle of waits, or null. Each ends only after the next one: that is the request in its way, or one of the client
+// whose request is in its way and holds the name. Of each it has the wait, and the request in its way.
 export function circleOf(waits) {
-    const links = new Map();
-    for (const wait of waits)
-        for (const next of wait.blockers) links.set(keyOf(wait), [...links.get(keyOf(wait)) ?? [], {wait, next}]);
+    const keyOf = (wait) => `${clientOf(wait)} ${wait.name}`;
+    const byKey = new Map(waits.map((wait) => [keyOf(wait), wait])), byClient = new Map();
+    for (const wait of waits) byClient.set(clientOf(wait), [...byClient.get(clientOf(wait)) ?? [], wait]);
+    const waitsAfter = (next) => next.how === "holds it" ? byClient.get(clientOf(next)) ?? []
+        : next.how === "asked earlier" && byKey.has(keyOf(next)) ? [byKey.get(keyOf(next))] : [];
     const done = new Set();
-    const search = (key, path) => {
-        const start = path.findIndex(({wait}) => keyOf(wait) === key);
+    const search = (wait, path) => {
+        const start = path.findIndex((link) => link.wait === wait);
         if (start >= 0) return path.slice(start);
-        if (done.has(key)) return null;
-        for (const link of links.get(key) ?? []) {
-            const found = search(keyOf(link.next), [...path, link]);
-            if (found) return found;
-        }
-        done.add(key);
+        if (done.has(wait)) return null;
+        for (const next of wait.blockers)
+            for (const later of waitsAfter(next)) {
+                const found = search(later, [...path, {wait, next}]);
+                if (found) return found;
+            }
+        done.add(wait);
         return null;
     };
-    for (const key of links.keys()) {
-        const found = search(key, []);
+    for (const wait of waits) {
+        const found = search(wait, []);
         if (found) return found;
     }
     return null;

@@ -94,6 +94,10 @@ def try_circles(page):
     page.open(text_of_marks([*HELD, "request 3 3 c X 1", "enter 3 3 c X 1", "request 1 1 b X 2", "request 1 1 c X 2", "request 2 2 a X 2"]))
     page.press("End")
     page.trial.has("a client that waits for two names: the deadlock", CIRCLE, page.text("#quiet"))
+    # Of each two requests the first goes first, and nobody holds a name: client 1 gets a, and client 2 gets b.
+    page.open(text_of_marks(["request 1 1 a X 1", "request 2 2 b X 1", "request 2 2 a X 2", "request 1 1 b X 2"]))
+    page.press("End")
+    page.trial.same("clients that hold nothing: no deadlock", False, "deadlock" in page.text("#left"))
     page.open(text_of_marks(["request 1 7 a X 1", "enter 1 7 a X 1", "request 2 7 b X 1", "enter 2 7 b X 1", "request 1 7 b X 2"]))
     page.press("End")
     page.trial.same("two clients with one number: no deadlock", False, "deadlock" in page.text("#left"))
