@@ -79,45 +79,46 @@ fn found_by(rt: &HostRuntime, path: &str, row: &Row) -> (Vec<u8>, bool) {
     found(rt, path, &row.appends)
 }
 
+const ROWS: &[Row] = &[
+    Row {
+        shows: "a new file",
+        before: IsMissing,
+        found: b"",
+        appends: Lines,
+        after: b"1\n2\n\n",
+    },
+    Row {
+        shows: "its lines",
+        before: IsKept,
+        found: b"1\n2\n\n",
+        appends: Nothing,
+        after: b"1\n2\n\n",
+    },
+    Row {
+        shows: "a torn line",
+        before: Holds(b"one\ntwo\nthr"),
+        found: b"one\ntwo\n",
+        appends: Nothing,
+        after: b"one\ntwo\n",
+    },
+    Row {
+        shows: "a torn line, and a line after it",
+        before: Holds(b"one\ntwo\nthr"),
+        found: b"one\ntwo\n",
+        appends: OneLine,
+        after: b"one\ntwo\n3\n",
+    },
+    Row {
+        shows: "no line",
+        before: Holds(b"no line"),
+        found: b"",
+        appends: Nothing,
+        after: b"",
+    },
+];
+
 #[test]
 fn whole_lines_are_found_again_and_a_torn_one_is_cut(rt: HostRuntime) {
-    const ROWS: &[Row] = &[
-        Row {
-            shows: "a new file",
-            before: IsMissing,
-            found: b"",
-            appends: Lines,
-            after: b"1\n2\n\n",
-        },
-        Row {
-            shows: "its lines",
-            before: IsKept,
-            found: b"1\n2\n\n",
-            appends: Nothing,
-            after: b"1\n2\n\n",
-        },
-        Row {
-            shows: "a torn line",
-            before: Holds(b"one\ntwo\nthr"),
-            found: b"one\ntwo\n",
-            appends: Nothing,
-            after: b"one\ntwo\n",
-        },
-        Row {
-            shows: "a torn line, and a line after it",
-            before: Holds(b"one\ntwo\nthr"),
-            found: b"one\ntwo\n",
-            appends: OneLine,
-            after: b"one\ntwo\n3\n",
-        },
-        Row {
-            shows: "no line",
-            before: Holds(b"no line"),
-            found: b"",
-            appends: Nothing,
-            after: b"",
-        },
-    ];
     let path = "book_files_lines.book";
     for row in ROWS {
         let (text, appended) = found_by(&rt, path, row);
