@@ -4,14 +4,16 @@ pub mod helps;
 pub mod input_kind;
 pub mod near_words;
 pub mod option_rows;
+pub mod option_values;
 pub mod search;
+pub mod text_tasks;
 
-ghost use Rattle.std.specs.Prelude.{◌≡◌, ◌↔◌, Any, IfOk, IsTrue, MatchResult, Ok, map, string_bytes};
+ghost use Rattle.std.specs.Prelude.{◌≡◌, ◌↔◌, Any, IfOk, IsTrue, MatchResult, map, string_bytes};
 ghost use Rattle.clap.specs.Words.{HasKind, found_of, kind_of, rows_of, subcommand_rows_of};
 ghost use Rattle.ra_arguments.specs.Arguments.{IsHelpArgument};
-ghost use Rattle.ra_arguments.specs.Asked.{AsksForTask, IsArgumentsFault, IsRefusedBy, IsTaken, IsTaskFor, is_help, meaning_given, refusals};
+ghost use Rattle.ra_arguments.specs.Asked.{AsksForTask, IsArgumentsFault, IsRefusedBy, IsTaken, is_help, meaning_given, refusals};
 ghost use Rattle.ra_arguments.specs.Helping.{IsShown, ShowsHelp, helps_of};
-ghost use Rattle.ra_arguments.specs.Meanings.{answer_in, chance_of as chance_by, cluster_in, draw_in, check_in, ending_in, every_in, flag_in, kind_in, meaning_in, number_in, part_in, plain_number_in, policy_in, policy_named as policy_by_name, printed_by, printed_in, rates_in, repeats_in, search_by, seeds_in, sim_in, survey_by, with_sends as printed_with_sends};
+ghost use Rattle.ra_arguments.specs.Meanings.{answer_in, chance_of as chance_by, cluster_in, ending_in, meaning_in, policy_in, policy_named as policy_by_name, printed_by, printed_in, rates_in, repeats_in, search_by, seeds_in, sim_in, survey_by, with_sends as printed_with_sends};
 
 use crate::cluster_output::ClusterOutput;
 use crate::command_line::command_rows::matches_of;
@@ -20,7 +22,9 @@ use crate::command_line::helps::{
     STATUS_HELP, SUMMARY_HELP, help_below,
 };
 use crate::command_line::input_kind::InputKind;
+use crate::command_line::option_values::{has_flag, long_number, plain_number, short_number};
 use crate::command_line::search::{Search, SurveyTask};
+use crate::command_line::text_tasks::{check_task, draw_task};
 use crate::usage_fault::{ArgumentsFault, UsageCause, UsageFault};
 use clap::error::ErrorKind;
 use clap::{ArgMatches, Error as ParseError};
@@ -90,42 +94,6 @@ pub enum CommandFault {
     Usage,
     /// Memory ran out.
     Memory,
-}
-
-/// Returns the number of 16 bits that an option is given. It does not allocate.
-fn short_number(given: &ArgMatches, option: &str) -> Option<u16>
-    ensures { result ≡ number_in 16 option.now (rows_of (found_of given.now)) }
-{
-    given.get_one(option)
-}
-
-/// Returns the number of 16 bits that an option is given. The parser takes `-0` for 0, and this does not. It does not
-/// allocate.
-fn plain_number(given: &ArgMatches, option: &str) -> Option<u16>
-    ensures { result ≡ plain_number_in 16 option.now (rows_of (found_of given.now)) }
-{
-    let text = given.get_str(option)?;
-    match text.parse() {
-        Ok(number) => Some(number),
-        Err(_) => None,
-    }
-}
-
-/// Returns the number of 64 bits that an option is given. It does not allocate.
-fn long_number(given: &ArgMatches, option: &str) -> Option<u64>
-    ensures { result ≡ number_in 64 option.now (rows_of (found_of given.now)) }
-{
-    given.get_one(option)
-}
-
-/// Returns whether an option that takes nothing is given. It does not allocate.
-fn has_flag(given: &ArgMatches, option: &str) -> bool
-    ensures { result ≡ flag_in option.now (rows_of (found_of given.now)) }
-{
-    match given.get_str(option) {
-        Some(text) => text == "true",
-        None => false,
-    }
 }
 
 /// Returns the task of the command `answer`.
@@ -381,73 +349,6 @@ fn sim_task<'a>(sim: &ArgMatches<'a>) -> Result<Task<'a>, UsageCause>
         choices,
         format,
     })
-}
-
-/// Returns what the commands `check` and `draw` read. It does not allocate.
-fn kind_of(given: &ArgMatches) -> InputKind
-    ensures { result ≡ kind_in (rows_of (found_of given.now)) }
-{
-    if has_flag(given, "marks") {
-        InputKind::Marks
-    } else {
-        InputKind::Trace
-    }
-}
-
-/// Returns the part that is drawn, or `None` if no line is in it, whatever the input. It does not allocate.
-fn part_of(given: &ArgMatches) -> Option<Part>
-    ensures { result ≡ part_in (rows_of (found_of given.now)) }
-{
-    let from = long_number(given, "from")?;
-    let to = long_number(given, "to")?;
-    if from == 0 || from > to {
-        return None;
-    }
-    Some(Part { from, to })
-}
-
-/// Returns the task of the command `draw`.
-///
-/// # Errors
-///
-/// `Part`: no line is in its part, whatever the input.
-fn draw_task<'a>(given: &ArgMatches<'a>) -> Result<Task<'a>, UsageCause>
-    ensures { IsTaken (draw_in (rows_of (found_of given.now))) result }
-{
-    let Some(part) = part_of(given) else {
-        return Err(UsageCause::Part);
-    };
-    let kind = kind_of(given);
-    Ok(Task::Draw { kind, part })
-}
-
-/// Returns after how many lines each time the command `check` tells what they come to, or 0 for never. It does not
-/// allocate.
-fn every_of(given: &ArgMatches) -> u64
-    ensures { result ≡ every_in (rows_of (found_of given.now)) }
-{
-    // It has a default, so the parser gives it a number.
-    long_number(given, "every").unwrap_or(0)
-}
-
-/// Returns the task of the command `check`.
-fn check_task<'a>(given: &ArgMatches<'a>) -> Task<'a>
-    ensures { IsTaskFor (Ok (check_in (rows_of (found_of given.now)))) result }
-{
-    let complete = has_flag(given, "complete");
-    let kind = kind_of(given);
-    if has_flag(given, "follow") {
-        let every = every_of(given);
-        return Task::Follow {
-            kind,
-            every,
-            complete,
-        };
-    }
-    match kind {
-        InputKind::Trace => Task::Check { complete },
-        InputKind::Marks => Task::CheckMarks { complete },
-    }
 }
 
 /// Returns the task of the command `cluster`.

@@ -1,7 +1,7 @@
 use Rattle.std.proofs.Common.{◌∙◌, refl, sym}
 use Rattle.clap.specs.Words.{found_of}
 use Rattle.ra_arguments.proofs.Reading.{no_number_of, none_given, number_of, text_given}
-use Rattle.ra_arguments.proofs.command_line.plain_number.Goals as goal
+use Rattle.ra_arguments.proofs.command_line.option_values.plain_number.Goals as goal
 
 pub returns-in-Ok : goal.returns-in-Ok
 returns-in-Ok c =
