@@ -2,7 +2,7 @@
 or says less on standard error, or prints `refused Memory` and nothing else, with status 2."""
 import itertools
 
-from cases import TEXTS
+from cases import TEXTS, text
 from preload import PreloadTest, Run, Stream
 
 ANSWER = "answer --node 2 --nodes 3"
@@ -15,6 +15,38 @@ STOPPED = [
     b"ra: a node was stopped: cannot start a thread (each node and each client needs one)\n",
 ]
 NO_MORE = "ra: standard output says what came of it; no memory is left to say more\n"
+# Two clients at two nodes that lock two names in opposite orders.
+CROSSED = """nodes = 2
+client = [
+    { node = 1, ops = ["X a", "X b", "U b", "U a"] },
+    { node = 2, ops = ["X b", "X a", "U a", "U b"] },
+]
+"""
+# The only node takes a lock, queues a client, and gives the lock back, each line twice. The answers to each line: when it comes
+# first, and after that.
+TWICE = [
+    ("ask 7 door X\n", "request 1 7 door X 1\nenter 1 7 door X 1\nok\n", "refused Busy\n"),
+    ("ask 8 door S\n", "ok\n", "refused Busy\n"),
+    ("release 7 door\n", "leave 1 7 door X 1\nrequest 1 8 door S 2\nenter 1 8 door S 2\nok\n", "refused NotHeld\n"),
+    ("release 8 door\n", "leave 1 8 door S 2\nok\n", "refused NotHeld\n"),
+]
+# Node 1 of 2 asks, has the REPLY, defers a REQUEST and leaves.
+DEFERS = """book 1 1 2 0
+ask 7 door X
+receive <reply 2 1 door 1 at 2>
+receive <request 2 1 door X 2 at 5>
+release 7 door
+"""
+ASKED = "send 2 <request 1 2 door X 1 at 1>\nrequest 1 7 door X 1\nok\n"
+ENTERED = "enter 1 7 door X 1\nok\n"
+# What it answers, and what if there is no memory for one of the lines: what came before has happened, and the line has not.
+DEFERRED = [
+    f"{ASKED}{ENTERED}ok\nsend 2 <reply 1 2 door 2 at 7>\nleave 1 7 door X 1\nok\n",
+    "refused Memory\nok\nsend 2 <reply 1 2 door 2 at 6>\nok\nrefused NotHeld\n",
+    f"{ASKED}refused Memory\nok\nrefused NotHeld\n",
+    f"{ASKED}{ENTERED}refused Memory\nleave 1 7 door X 1\nok\n",
+    f"{ASKED}{ENTERED}ok\nrefused Memory\n",
+]
 # How many runs are made before it is looked whether one met a refusal: of threads, one run may ask for less memory than another.
 GROUP = 16
 
@@ -29,6 +61,7 @@ does not wait or hold, its node already waits or holds, or its number is not abo
 NOT_A_MARK = """not a mark: expected request, enter, leave or withdraw and then NODE CLIENT NAME MODE SEQ, separated by single \
 spaces and ended by a line feed alone
 """
+NOT_A_LINE = "not a line that a trace may have here (see ra check --help); each line ends with a line feed alone, and the last line is end\n"
 NOT_SENT = "its sender's book did not send this frame with this clock: expected one that ra node prints for that book\n"
 NOT_TAKEN = "the node of this book does not take this event: give the book to ra node to see why\n"
 NO_CLUSTER = """a node has two books, or books name different numbers of nodes or starts, or the book of a node is missing: \
@@ -47,7 +80,8 @@ def is_refused(words, done):
         return False
     if done.output == b"refused Memory\n":
         return done.note == b"ra: out of memory\n"
-    return words.split()[0] == "cluster" and done.output == b"refused Fault\n" and done.note in STOPPED
+    first = words.split()[0] if isinstance(words, str) else words[0]
+    return first == "cluster" and done.output == b"refused Fault\n" and done.note in STOPPED
 
 
 class Growth(PreloadTest):
@@ -96,6 +130,32 @@ class Growth(PreloadTest):
         self.expect_growth("sim --as-choices", SCRIPT, "c1 m0 m0 c1\n")
         self.expect_growth("sim --state", SCRIPT, "steps 4\nnode 1 r 1 idle\nnode 2 r 1 idle\nclient 1 1 done\n")
 
+    def test_growth_of_sim_with_choices(self):
+        self.expect_growth(["sim", "--policy", "listed", "--choices", "c1 m0 m0 c1"], SCRIPT, TEXTS["ONE_CLIENT_PRINTED"])
+        note = "ra: choice 3 of --choices, m3, is not possible: one message is under way at that point, at place 0\n"
+        words = ["sim", "--policy", "listed", "--choices", "c1 m0 m3"]
+        self.expect_growth(words, SCRIPT, "refused BadPlace\n", 2, note, [NO_MORE])
+
+    def test_growth_of_sim_with_shrink(self):
+        self.expect_growth("sim --shrink", SCRIPT, "none\n")
+        waits = "ra: the run did not finish: client 1 at node 1 waits for 'r' (X): no client blocks it, but "
+        note, known = f"{waits}its REQUEST to node 2, sent in step 1, was lost in step 2\n", f"{waits}a message was lost\n"
+        none = "ra: none of the 2 choices can be left out\n"
+        less = [f"{none}{known}", f"{none}{NO_MORE}", note, known, NO_MORE]
+        words = ["sim", "--policy", "listed", "--choices", "c1 l0", "--shrink"]
+        self.expect_growth(words, SCRIPT, "c1 l0\n", 3, f"{none}{note}", less)
+
+    def test_growth_of_sim_by_chance(self):
+        """Two clients lock one name. By seed 2, client 2 asks first, and a copy of the REPLY to it comes."""
+
+        def is_done(done):
+            return (done.status, done.note) == (0, b"") and b"\nrequests 2\nmessages 4\n" in done.output
+
+        given = 'nodes = 2\nclient = [{ node = 1, ops = ["X r", "U r"] }, { node = 2, ops = ["X r", "U r"] }]\n'
+        for words in ("sim --policy seeded --seed 1", "sim --policy faulty --repeat 100 --seed 2", "sim"):
+            self.expect_all(words, given, is_done, "a run with four messages, or that memory ran out")
+        self.expect_growth("sim --as-choices", given, "c1 c2 m0 m0 m0 c1 m0 c2\n")
+
     def test_growth_of_sim_with_many_seeds(self):
         # The client asks, has its answer and leaves, whatever the seed.
         words = "sim --policy seeded --seeds 5..7"
@@ -104,6 +164,7 @@ class Growth(PreloadTest):
         found = {"note": "ra: this run has seed 5: to make it again, use --seed 5 in place of --seeds and --find\n", "less": [""]}
         self.expect_growth(f"{words} --find finished", SCRIPT, TEXTS["ONE_CLIENT_TRACE"], **found)
         self.expect_growth(f"{words} --find finished --as-choices", SCRIPT, "c1 m0 m0 c1\n", **found)
+        self.expect_growth(f"{words} --find stuck", SCRIPT, "none\n")
 
     def test_growth_of_the_version(self):
         self.expect_growth("--version", "", "ra 0.2.0 (frames 1 and 2, traces 1 to 3, books 1 and 2)\n")
@@ -119,12 +180,15 @@ class Growth(PreloadTest):
 
         given = TEXTS["ONE_CLIENT_TRACE"]
         self.expect_all("draw", given, is_begun, "the first bytes of a picture, or that memory ran out", writer=Stream(4096))
-        self.expect_all("draw", given, is_whole, "a picture, or that memory ran out")
+        # In the second trace a REQUEST is deferred.
+        for words, given in (("draw", given), ("draw", TEXTS["TRACE_TWO_LOCKS"]), ("draw --marks", TEXTS["LOG_TWO_WRITERS"])):
+            self.expect_all(words, given, is_whole, "a picture, or that memory ran out")
 
     def test_growth_of_check(self):
         # Without memory for the text, it is not known what is left at its end.
         self.expect_growth("check", TEXTS["ONE_CLIENT_TRACE"], "valid\nrequests 1\nmessages 2\n", less=[NO_MORE])
         self.expect_growth("check --marks", MARKS, "valid\nrequests 1\ngrants 1\n", less=[NO_MORE])
+        self.expect_growth("check --marks", TEXTS["LOG_TWO_WRITERS"], "valid\nrequests 2\ngrants 2\n", less=[NO_MORE])
 
     def allocations(self, words, given):
         """Returns how many allocations a command makes."""
@@ -153,10 +217,44 @@ class Growth(PreloadTest):
         # The REQUEST came twice and was answered twice. One of the two REPLYs came.
         again = TEXTS["MARKS_OF_7"] + TEXTS["THREE_ONE_LEFT"]
         self.expect_growth("settle --repeats", TEXTS["BOOKS_ONE"] + TEXTS["BOOKS_TWO_AGAIN"], again)
+        twice = text(TEXTS["ALL_TWICE"]).decode()
+        self.expect_growth("settle --repeats --trace", twice, TEXTS["ALL_TWICE_TRACE"])
+
+    def test_growth_of_node(self):
+        """A line for which there is no memory has not happened, and comes again."""
+        given = "book 1 1 1 0\n" + "".join(2 * line for line, _, _ in TWICE)
+        normal = [first + after for _, first, after in TWICE]
+        with_one = [[*normal[:it], f"refused Memory\n{TWICE[it][1]}", *normal[it + 1 :]] for it in range(len(TWICE))]
+        answers = {f"ok\n{''.join(it)}".encode() for it in (normal, *with_one)}
+        self.expect_all("node", given, lambda done: done.status == 0 and done.output in answers, "a line is refused at most once")
+        answers = {text({"frames": f"ok\n{it}"}) for it in DEFERRED}
+        given = text({"frames": DEFERS})
+        self.expect_all("node", given, lambda done: done.status == 0 and done.output in answers, "what is refused has not happened")
 
     def test_growth_of_a_note_on_a_frame(self):
         note = "ra: the version at offset 0 is 03: must be 01 or 02\n"
         self.expect_growth(ANSWER, "0301", "refused Version\n", 2, note, [NO_MORE])
+
+    def test_growth_of_a_note_on_digits(self):
+        note = "ra: not a hexadecimal digit at offset 2 of the line: 'g'\n"
+        self.expect_growth(ANSWER, "01g1", "refused Hex\n", 2, note, [NO_MORE])
+
+    def test_growth_of_a_note_on_a_frame_for_another_node(self):
+        note = "ra: the receiver at offset 3 is 03: the frame is for node 3, but --node is 2\n"
+        given = "0101010300000000000000000100000000000000010172\n"
+        self.expect_growth(ANSWER, given, "refused WrongNode\n", 2, note, [NO_MORE])
+
+    def test_growth_of_a_note_on_a_script(self):
+        note = "ra: client 1, operation 2, 'S r': the client already holds this name\n"
+        given = 'nodes = 1\nclient = [{ node = 1, ops = ["X r", "S r"] }]\n'
+        self.expect_growth("sim", given, "refused AlreadyHeld\n", 2, note, [NO_MORE])
+        note = "ra: client 1: ops is missing: a client has node (an integer) and ops (an array of strings)\n"
+        self.expect_growth("sim", "nodes = 1\nclient = [{ node = 1 }]\n", "refused Shape\n", 2, note, [NO_MORE])
+
+    def test_growth_of_a_note_on_an_order(self):
+        note = "ra: client 2, operation 2: locks 'a' while holding 'b', which does not sort before it, so clients could deadlock: "
+        note += "lock names in ascending byte order, or run the script with ra sim\n"
+        self.expect_growth("cluster", CROSSED, "refused OutOfOrder\n", 2, note, [NO_MORE])
 
     def test_growth_of_a_note_on_the_words(self):
         note = "ra: unrecognized subcommand 'simm'; a similar subcommand exists: 'sim'; see ra --help\n"
@@ -171,10 +269,38 @@ class Growth(PreloadTest):
         less = [f"{waits}a message is under way\n", NO_MORE]
         self.expect_growth("sim --policy listed --choices=c1", SCRIPT, output, 3, note, less)
 
+    def test_growth_of_a_note_on_a_deadlock(self):
+        waits = "ra: the run did not finish: client 1 at node 1 waits for 'b' (X): client 2 holds it (X); "
+        waits += "client 2 at node 2 waits for 'a' (X): client 1 holds it (X)\n"
+        circle = "ra: a deadlock: client 1 at node 1 waits for client 2 at node 2, which waits for client 1 at node 1\n"
+        # Without memory for the circle, it is not said.
+        self.expect_growth("sim", CROSSED, TEXTS["STUCK_PRINTED"], 3, f"{waits}{circle}", [waits, NO_MORE])
+
+    def test_growth_of_a_note_on_a_name_that_stays_locked(self):
+        output = "request 1 1 r X 1\nenter 1 1 r X 1\nrequests 1\nmessages 0\nunder-way 0\nlost 0\nwaiting 0\nqueued 0\n"
+        note = "ra: the run finished with names still locked: client 1 holds 'r' (X)\n"
+        # Without memory for the script, it is not known which names are locked.
+        self.expect_growth("sim", TEXTS["A_KEEPER"], output, 0, note, [""])
+
     def test_growth_of_a_note_on_a_wrong_line(self):
         self.expect_of_line(
             "check", "trace 2 2 0\nask 3 1 r X\n", "invalid 2 Refused\n",
             "ask 3 1 r X", ": there is no node 3: the highest node of the trace is 2", REFUSED)
+
+    def test_growth_of_a_note_on_a_field(self):
+        cause = ": MODE is 'x': must be S, X, IS, IX or SIX"
+        given = "trace 2 2 0\nask 1 1 r x\n"
+        self.expect_of_line("check", given, "invalid 2 Line\n", "ask 1 1 r x", cause, NOT_A_LINE, quotes=False)
+
+    def test_growth_of_a_note_on_a_client_that_waits(self):
+        given = "trace 2 2 0\nask 1 1 r X\nrequest 1 1 r X 1\nask 1 1 r S\n"
+        cause = ": client 1 has waited for 'r' (X) at node 1 since line 3 and may not ask for it again"
+        self.expect_of_line("check", given, "invalid 4 Refused\n", "ask 1 1 r S", cause, REFUSED)
+
+    def test_growth_of_a_note_on_the_last_number(self):
+        given = "trace 2 2 18446744073709551615\nask 1 1 r X\n"
+        cause = ": no sequence number is left for 'r': the greatest is 18446744073709551615"
+        self.expect_of_line("check", given, "invalid 2 Refused\n", "ask 1 1 r X", cause, REFUSED)
 
     def test_growth_of_a_note_on_a_mark_that_is_not_due(self):
         for words in ("check", "draw"):
@@ -234,3 +360,10 @@ class Growth(PreloadTest):
         line = "book 1 1 2 0"
         cause = ": this node has a book already, which begins at line 1: expected one book of each node"
         self.expect_of_line("settle", f"{line}\n{line}\n", "invalid 2 Books\n", line, cause, NO_CLUSTER, quotes=False)
+
+    def test_growth_of_a_note_on_a_frame_with_another_clock(self):
+        line = "receive 02020002000100000000000000000100000000000000090172"
+        cause = f", in the book of node 1, a frame of node 2 with clock 9: {NOT_SENT.rstrip()}"
+        given = TEXTS["BOOKS_TWO"] + TEXTS["BOOKS_ONE_AT_9"]
+        self.expect_of_line("settle", given, "invalid 5 NotSent\n", line, cause, NOT_SENT, quotes=False)
+        self.expect_of_line("settle --repeats", given, "invalid 5 NotSent\n", line, cause, NOT_SENT, quotes=False)

@@ -1,7 +1,7 @@
 //! Which step of a list `run` refuses, and why: the first step, and one after many others.
 use crate::run_tests::reported_runs::{adds, run_of, steps_of};
 use crate::world_steps::report_totals::totals;
-use crate::world_steps::world_asserting::{assert_same, assert_text};
+use crate::world_steps::world_asserting::{assert_same, assert_text, fail_at};
 use crate::world_steps::world_calls::{ASKS, LEAVES, step_of};
 use ra_world::{NodeRefusal, RunError, Step, StepError, Steps, report_text};
 use std::alloc::Global;
@@ -67,7 +67,11 @@ fn assert_refused(rt: &(impl Abort + AllocGlobal), cases: &[Case], place: u64) {
         let (at, cause) = (part("a run with this step", case.line), case.cause);
         let mut steps = Steps::new(rt.alloc());
         if !adds_case(&mut steps, case, place == 40) {
-            panic!(rt; "{at}: this is no step, or there is no memory for the list");
+            fail_at(
+                rt,
+                at,
+                "this is no step, or there is no memory for the list",
+            );
         }
         let fault = fault_of(rt.alloc(), case.start, &steps);
         assert_same(rt, at, &fault, &Some(RunError::Refused { place, cause }));

@@ -1,11 +1,11 @@
 //! How bytes are read up to a limit and written, also if a reader or a writer fails.
-use crate::world_steps::world_asserting::assert_same;
+use crate::world_steps::world_asserting::{assert_prints, assert_same};
 use ra_text::{ReadFault, WriteFault, read_up_to, write_out};
 use std::alloc::Global;
 use std::io;
 use std::io::Read;
 use std::process::Abort;
-use test_support::{At, FailingReader, assert_prints, assert_words, failing_writer, row};
+use test_support::{At, FailingReader, assert_words, failing_writer, row};
 
 /// The bytes that are read and written.
 const BYTES: &[u8] = b"abc";
@@ -109,5 +109,5 @@ fn a_writer_that_failed_is_not_tried_again(rt: HostRuntime) {
 #[test]
 fn faults_are_printed_as_their_words(rt: HostRuntime) {
     assert_words!(&rt; ReadFault: Read Memory);
-    assert_prints!(&rt, &[(WriteFault, "Write")]);
+    assert_prints(&rt, &[(WriteFault, "Write")]);
 }

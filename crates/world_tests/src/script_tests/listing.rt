@@ -1,7 +1,7 @@
 //! The choices of a run, and the first seed that comes to an end.
 use crate::script_tests::policies::{Chooser, driven, policy};
 use crate::script_tests::scripts::adds_locker;
-use crate::world_steps::world_asserting::assert_same;
+use crate::world_steps::world_asserting::{assert_same, fail, fail_at};
 use Chooser::{Faulty, Newest, Oldest, Seeded};
 use Ending::{Finished, Stuck};
 use ra_schedule::{
@@ -134,7 +134,7 @@ fn assert_listed(
         match policy(rt.alloc(), each.chooser) {
             Some(policy) if is_shrunk => assert_shrinks(rt, at, script, &policy, each.choices),
             Some(policy) => assert_chooses(rt, at, script, &policy, each.choices),
-            None => panic!(rt; "{at}: there is no such policy"),
+            None => fail_at(rt, at, "there is no such policy"),
         }
     }
 }
@@ -143,7 +143,7 @@ fn assert_listed(
 fn assert_listed_of_four(rt: &(impl Abort + AllocGlobal), rows: &[Listed], is_shrunk: bool) {
     match lockers(rt.alloc(), 4) {
         Some(script) => assert_listed(rt, &script, rows, is_shrunk),
-        None => panic!(rt; "there is no memory for the script"),
+        None => fail(rt, "there is no memory for the script"),
     }
 }
 
@@ -339,7 +339,7 @@ fn assert_first(rt: &(impl Abort + AllocGlobal), script: &Script) {
 fn the_first_seed_of_an_end_is_found(rt: HostRuntime) {
     match lockers(rt.alloc(), 1) {
         Some(script) => assert_first(&rt, &script),
-        None => panic!(rt; "there is no memory for the script"),
+        None => fail(&rt, "there is no memory for the script"),
     }
 }
 
@@ -423,6 +423,6 @@ fn assert_told_each(rt: &(impl Abort + AllocGlobal), script: &Script) {
 fn surveys_and_searches_tell_what_came_of_each_seed(rt: HostRuntime) {
     match lockers(rt.alloc(), 1) {
         Some(script) => assert_told_each(&rt, &script),
-        None => panic!(rt; "there is no memory for the script"),
+        None => fail(&rt, "there is no memory for the script"),
     }
 }

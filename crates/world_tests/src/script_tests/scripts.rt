@@ -7,7 +7,7 @@ use std::process::Abort;
 use test_support::{At, q, r, row};
 
 /// Adds an operation, and returns why it is refused, or `None` if it is not.
-pub fn fault_of_op(script: &mut Script, op: &Op) -> Option<AddOpError> {
+fn fault_of_op(script: &mut Script, op: &Op) -> Option<AddOpError> {
     script.add_op(*op).err()
 }
 

@@ -3,7 +3,7 @@
 use crate::script_tests::listing::lockers;
 use crate::script_tests::policies::{Chooser, driven, policy, summed};
 use crate::script_tests::scripts::{adds_locks, fault_of_client};
-use crate::world_steps::world_asserting::assert_same;
+use crate::world_steps::world_asserting::{assert_same, fail, fail_at};
 use crate::world_steps::world_calls::step;
 use Choice::{Client, Lost, Message, Repeated};
 use Chooser::{Faulty, Listed, Newest, Oldest, Seeded};
@@ -90,7 +90,7 @@ fn assert_cases(rt: &(impl Abort + AllocGlobal), cases: &[Case]) {
         let at = row(case.shows);
         match after_locks(rt.alloc(), case.locks, case.choices) {
             Some(policy) => assert_leads_to(rt, at, &script, &policy, case.limit, case.cause),
-            None => panic!(rt; "there is no memory for the choices"),
+            None => fail(rt, "there is no memory for the choices"),
         }
     }
 }
@@ -308,7 +308,7 @@ fn assert_turns_of_each(rt: &(impl Abort + AllocGlobal), script: &Script, rows: 
         let at = row(each.shows);
         match policy(rt.alloc(), each.chooser) {
             Some(policy) => { assert_turns(rt, at, script, &policy, (each.turns, each.finished)) }
-            None => panic!(rt; "{at}: there is no such policy"),
+            None => fail_at(rt, at, "there is no such policy"),
         }
     }
 }
@@ -352,7 +352,7 @@ fn each_policy_has_as_many_turns_as_there_may_be(rt: HostRuntime) {
     assert_turns_of_each(&rt, &script, ROWS);
     match after_locks(rt.alloc(), 10, &[]) {
         Some(listed) => assert_turns(&rt, row("a list of choices"), &script, &listed, (40, true)),
-        None => panic!(rt; "there is no memory for the choices"),
+        None => fail(&rt, "there is no memory for the choices"),
     }
 }
 
@@ -384,7 +384,7 @@ fn turns_that_lose_or_repeat_a_message_count(rt: HostRuntime) {
     ];
     match lockers(rt.alloc(), 1) {
         Some(script) => assert_turns_of_each(&rt, &script, ROWS),
-        None => panic!(rt; "there is no memory for the script"),
+        None => fail(&rt, "there is no memory for the script"),
     }
 }
 
@@ -484,6 +484,6 @@ fn a_choice_repeats_what_is_under_way(rt: HostRuntime) {
             Ok(made) => assert_repeats(&rt, &made),
             Err(fault) => assert_same(&rt, row("the choices"), &Some(fault), &None),
         },
-        _ => panic!(rt; "there is no memory for the script and its choices"),
+        _ => fail(&rt, "there is no memory for the script and its choices"),
     }
 }

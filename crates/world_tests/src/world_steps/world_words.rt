@@ -1,10 +1,10 @@
 //! What is printed of worlds and of schedules: refusals, the greatest mark and faults.
-use crate::world_steps::world_asserting::{assert_same, assert_text};
+use crate::world_steps::world_asserting::{assert_prints, assert_same, assert_text};
 use ra_schedule::{AddClientError, AddOpError, DriveError, NewScriptError};
 use ra_stamp::{Mark, Mode, Name};
 use ra_text::mark_line;
 use ra_world::{NewError, NodeRefusal, RunError, StepError};
-use test_support::{assert_prints, assert_words, entry, row};
+use test_support::{assert_words, entry, row};
 
 /// Why a step is refused, with its word.
 const CAUSES: &[(StepError, &str)] = &[
@@ -19,13 +19,13 @@ const CAUSES: &[(StepError, &str)] = &[
 
 #[test]
 fn refusals_are_printed_as_their_words(rt: HostRuntime) {
-    assert_prints!(&rt, CAUSES);
+    assert_prints(&rt, CAUSES);
     for (cause, word) in CAUSES {
         let of_run = RunError::Refused {
             place: 7,
             cause: *cause,
         };
-        assert_prints!(&rt, &[(of_run, *word)]);
+        assert_prints(&rt, &[(of_run, *word)]);
     }
     assert_words!(&rt; RunError: BadCount Memory; NewError: BadCount Memory);
 }

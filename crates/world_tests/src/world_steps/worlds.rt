@@ -1,7 +1,7 @@
 //! What no command shows of a world: which steps it accepts, which of equal messages it takes if it looks at one of
 //! them first, and that it makes more steps than any trace has. What happens in runs is in `cases/traces.toml`.
 use crate::world_steps::report_totals::totals;
-use crate::world_steps::world_asserting::assert_same;
+use crate::world_steps::world_asserting::{assert_same, fail_at};
 use crate::world_steps::world_calls::{ASKS, LEAVES, fault_of, new_world, report_of, step};
 use ra_world::{Step, World};
 use std::process::Abort;
@@ -186,7 +186,7 @@ fn delivers(rt: &(impl Abort + AllocGlobal), at: At<'_>, world: &mut World, time
     for _ in 0..times {
         match delivery_at(world, 0) {
             Some(step) => makes(rt, at, world, &step),
-            None => panic!(rt; "{at}: no message is under way"),
+            None => fail_at(rt, at, "no message is under way"),
         }
     }
 }
@@ -217,7 +217,7 @@ fn assert_quiet(rt: &(impl Abort + AllocGlobal), at: At<'_>, world: &World, row:
             assert_same(rt, at, &report.marks.len(), &locks.wrapping_mul(3));
             assert_same(rt, at, &totals(&report), &expected);
         }
-        None => panic!(rt; "{at}: there is no memory for the report"),
+        None => fail_at(rt, at, "there is no memory for the report"),
     }
 }
 
