@@ -1,0 +1,4 @@
+pub mod Objects
+pub mod Verdicts
+pub mod Surveys
+pub mod Settled
