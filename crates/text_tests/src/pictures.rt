@@ -1,9 +1,9 @@
 //! Pictures of traces: what is in parts that no command draws, and readers and writers that fail. `cases/` has the
 //! rest.
 use crate::shared_texts::{ONE_LOCK, failing};
-use crate::text_asserting::assert_same;
-use ra_draw::{DrawError, Part, draw, draw_marks};
-use ra_trace::{MarksVerdict, Verdict};
+use crate::text_asserting::{assert_same, fail};
+use ra_draw::{DrawError, Part, draw};
+use ra_trace::Verdict;
 use std::alloc::Global;
 use std::io;
 use std::io::{Read, Write};
@@ -32,23 +32,13 @@ fn count_in(text: &str, words: &str) -> u64 {
 }
 
 /// Draws a part of the trace that a reader gives.
-pub fn drawn_to<R: Read, W: Write>(
+fn drawn_to<R: Read, W: Write>(
     alloc: Global,
     reader: &mut R,
     writer: &mut W,
     part: Part,
 ) -> Result<Verdict, DrawError> {
     draw(alloc, reader, writer, part, &mut Vec::new(alloc))
-}
-
-/// Draws a part of the mark log that a reader gives.
-pub fn drawn_marks_to<R: Read, W: Write>(
-    alloc: Global,
-    reader: &mut R,
-    writer: &mut W,
-    part: Part,
-) -> Result<MarksVerdict, DrawError> {
-    draw_marks(alloc, reader, writer, part, &mut Vec::new(alloc))
 }
 
 /// Returns the picture of a part of a trace.
@@ -87,7 +77,7 @@ const ENDS: &str = "</svg>\n";
 /// Asserts that a picture has these words so often, and is one element without a script or another file.
 fn assert_picture(rt: &impl Abort, picture: Option<String>, words: &[(&str, u64)]) {
     let Some(picture) = picture else {
-        panic!(rt; "expected a picture, and none came");
+        fail(rt, "expected a picture, and none came");
     };
     let text = picture.as_str();
     let (start, end) = (text.get(..BEGINS.len()), text.len().checked_sub(ENDS.len()));

@@ -1,10 +1,11 @@
 //! How refusals and the causes of wrong lines are printed.
+use crate::text_asserting::assert_prints;
 use ra_draw::DrawError;
 use ra_schedule::{ChoicesError, DriveError};
 use ra_script::{PerformError, ScriptError};
 use ra_trace::{Cause, MarkCause, TraceError, WriteTraceError};
 use ra_world::{NodeRefusal, RunError, StepError};
-use test_support::{assert_prints, assert_words};
+use test_support::assert_words;
 
 /// Faults that print as those that they have in them.
 const INNER_FAULTS: &[(PerformError, &str)] = &[
@@ -14,7 +15,7 @@ const INNER_FAULTS: &[(PerformError, &str)] = &[
 
 #[test]
 fn refusals_print_as_their_words(rt: HostRuntime) {
-    assert_prints!(&rt, INNER_FAULTS);
+    assert_prints(&rt, INNER_FAULTS);
     assert_words!(&rt;
         ScriptError: AlreadyHeld Limit Memory;
         ChoicesError: Choice Memory;
@@ -35,7 +36,7 @@ const RUN_FAULTS: &[(WriteTraceError, &str)] = &[
 
 #[test]
 fn causes_and_faults_print_as_their_words(rt: HostRuntime) {
-    assert_prints!(&rt, RUN_FAULTS);
+    assert_prints(&rt, RUN_FAULTS);
     assert_words!(&rt;
         Cause: Line Refused NotUnderWay Marks Table;
         TraceError: Read Limit Memory;
@@ -46,5 +47,5 @@ fn causes_and_faults_print_as_their_words(rt: HostRuntime) {
 #[test]
 fn refusals_of_pictures_print_as_their_words(rt: HostRuntime) {
     assert_words!(&rt; DrawError: Read Limit TooLong Memory Write);
-    assert_prints!(&rt, &[(DrawError::NoLines { lines: 9 }, "NoLines")]);
+    assert_prints(&rt, &[(DrawError::NoLines { lines: 9 }, "NoLines")]);
 }

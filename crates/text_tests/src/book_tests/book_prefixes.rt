@@ -1,7 +1,7 @@
 //! Prefixes of a book, byte by byte, and readers that give it in pieces.
 use crate::shared_texts::Part::Text;
 use crate::shared_texts::adds_parts;
-use crate::text_asserting::assert_same;
+use crate::text_asserting::{assert_same, fail};
 use ra_book_text::{BookFault, answer_book};
 use std::io::{BufRead, ErrorKind};
 use std::process::Abort;
@@ -56,7 +56,10 @@ fn adds_answers(text: &mut Vec<u8>, bytes: &[u8]) -> bool {
 fn answers_to(rt: &(impl Abort + AllocGlobal), bytes: &[u8]) -> Vec<u8> {
     let mut answers = Vec::new(rt.alloc());
     if !adds_answers(&mut answers, bytes) {
-        panic!(rt; "there are other answers, or there is no memory for these");
+        fail(
+            rt,
+            "there are other answers, or there is no memory for these",
+        );
     }
     answers
 }

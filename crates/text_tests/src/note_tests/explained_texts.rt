@@ -3,6 +3,7 @@
 use crate::note_tests::asked_notes::Asked::{Choice, Digits, Field, Order, Unfinished};
 use crate::note_tests::asked_notes::{Note, Wrong, assert_said, assert_told, said_of_run};
 use crate::shared_texts::ONE_LOCK_SCRIPT;
+use crate::text_asserting::fail;
 use ra_schedule::{Choices, Policy};
 use ra_trace::{Cause, MarkCause};
 use std::alloc::Global;
@@ -146,33 +147,12 @@ fn what_is_said_of_a_line_after_others(rt: HostRuntime) {
     assert_said(&rt, "a line after others", AFTER_OTHERS);
 }
 
-/// Two clients at two nodes that lock two names in opposite orders.
-pub const A_DEADLOCK: &str = r#"nodes = 2
-client = [
-    { node = 1, ops = ["X a", "X b", "U b", "U a"] },
-    { node = 2, ops = ["X b", "X a", "U a", "U b"] },
-]
-"#;
-
-/// A reader that keeps a name, a writer, and a reader that asks after the writer.
-pub const A_KEEPER: &str = r#"nodes = 3
-client = [
-    { node = 1, ops = ["S r"] },
-    { node = 2, ops = ["X r", "U r"] },
-    { node = 3, ops = ["S r", "U r"] },
-]
-"#;
-
-/// What is left to do when the two clients wait for each other.
-pub const DEADLOCK_NOTE: &str =
-    "the run did not finish: client 1 at node 1 waits for 'b' (X): client 2 holds it (X); client 2 at node 2 waits for 'a' (X): client 1 holds it (X)\nra: a deadlock: client 1 at node 1 waits for client 2 at node 2, which waits for client 1 at node 1";
-
 /// What there is nothing to say of: a line of digits, runs that finish or have no script, choices that can be made or
 /// are no list, and a script that threads may run.
 const UNSAID: &[Note] = &[
     Note(Digits("01aF\n"), ""),
-    Note(Unfinished(ONE_LOCK_SCRIPT, None), ""),
-    Note(Unfinished("nodes = 2", None), ""),
+    Note(Unfinished(ONE_LOCK_SCRIPT), ""),
+    Note(Unfinished("nodes = 2"), ""),
     Note(Choice(ONE_LOCK_SCRIPT, "c1 m0 m0 c1"), ""),
     Note(Choice(ONE_LOCK_SCRIPT, "c1  m0"), ""),
     Note(Order(ONE_LOCK_SCRIPT), ""),
@@ -206,6 +186,6 @@ fn messages_that_are_left_are_said(rt: HostRuntime) {
             let said = said_of_run(rt.alloc(), ONE_LOCK_SCRIPT, &policy);
             assert_told(&rt, "a message is left", said, text)
         }
-        None => panic!(rt; "there is no memory for the choices"),
+        None => fail(&rt, "there is no memory for the choices"),
     }
 }

@@ -5,7 +5,7 @@ use std::alloc::Global;
 use test_support::part;
 
 /// Returns what `read_choices` answers.
-pub fn choices_of(alloc: Global, text: &str) -> Result<Choices, ChoicesError> {
+fn choices_of(alloc: Global, text: &str) -> Result<Choices, ChoicesError> {
     read_choices(alloc, text)
 }
 

@@ -9,7 +9,7 @@ use std::process::Abort;
 use test_support::{At, r, row};
 
 /// Returns what `read_script` answers.
-pub fn script_of(alloc: Global, text: &[u8]) -> Result<Script, ScriptError> {
+fn script_of(alloc: Global, text: &[u8]) -> Result<Script, ScriptError> {
     read_script(alloc, text)
 }
 

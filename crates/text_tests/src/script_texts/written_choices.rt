@@ -1,7 +1,7 @@
 //! How lists of choices are written, and which ones have no text.
 use crate::script_texts::performed_scripts::{performed, reader_of};
 use crate::shared_texts::{ONE_LOCK_SCRIPT, failing};
-use crate::text_asserting::assert_same;
+use crate::text_asserting::{assert_same, fail};
 use Choice::{Client, Lost, Message, Repeated};
 use ra_schedule::{Choice, Choices, ChoicesError, Faults, Policy, choices_text};
 use ra_script::{OutputKind, PerformError};
@@ -90,5 +90,8 @@ fn a_run_with_a_repeat_has_no_words(rt: HostRuntime) {
             return assert_same(&rt, row("another byte"), &writer.other, &None);
         }
     }
-    panic!(rt; "expected that a run by some seed below 100 is refused with Choice, and none was");
+    fail(
+        &rt,
+        "expected that a run by some seed below 100 is refused with Choice, and none was",
+    );
 }

@@ -1,6 +1,6 @@
 //! Lists of steps that have no trace because one step is refused: the first, or one after many others.
 use crate::shared_texts::failing;
-use crate::text_asserting::assert_same;
+use crate::text_asserting::{assert_same, fail_at};
 use crate::trace_tests::traced_steps::{adds, adds_line, fault_of_steps, text_of_steps};
 use ra_trace::WriteTraceError;
 use ra_world::{NodeRefusal, RunError, Step, StepError, Steps};
@@ -83,7 +83,11 @@ fn assert_refused(rt: &(impl Abort + AllocGlobal), cases: &[Case], place: u64) {
             Steps::new(rt.alloc()),
         );
         if !adds_case(&mut steps, case, place) {
-            panic!(rt; "{at}: this is no step, or there is no memory for the list");
+            fail_at(
+                rt,
+                at,
+                "this is no step, or there is no memory for the list",
+            );
         }
         assert_no_trace(rt, at, case, &steps, place);
     }
@@ -189,7 +193,7 @@ fn lines_in(text: &str) -> u64 {
 fn assert_lines(rt: &(impl Abort + AllocGlobal), label: &str, start: u64, lines: u64) {
     let mut steps = Steps::new(rt.alloc());
     if !adds_39_steps(&mut steps, start) || !adds_line(&mut steps, LEAVES) {
-        panic!(rt; "{label}: there is no memory for the list");
+        fail_at(rt, row(label), "there is no memory for the list");
     }
     match text_of_steps(rt.alloc(), 2, start, &steps) {
         Ok(text) => assert_same(rt, row(label), &lines_in(text.as_str()), &lines),

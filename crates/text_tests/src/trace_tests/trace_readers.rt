@@ -1,7 +1,7 @@
 //! How texts are read that are checked; and how far `check` and `check_buffered` read, and how they treat readers that
 //! fail or give a text in pieces.
 use crate::shared_texts::{ONE_LOCK, ONE_LOCK_LENGTH, Part, TWO_LOCKS, text_of};
-use crate::text_asserting::assert_same;
+use crate::text_asserting::{assert_same, fail_at};
 use ErrorKind::{BrokenPipe, Interrupted, WouldBlock};
 use Part::{Text, Times};
 use Way::{Failing, InPieces, Within};
@@ -88,11 +88,6 @@ pub fn reader(text: &[u8], way: Way) -> FailingReader<'_> {
     }
 }
 
-/// Returns the verdict on a text that is read so.
-pub fn checked_text<V: Judged>(alloc: Global, text: &[u8], way: Way) -> Result<V, TraceError> {
-    V::read(alloc, &mut reader(text, way), way, false)
-}
-
 /// Asserts that a text has this verdict, and that this many of its bytes are taken, both by reads and from a buffer.
 fn assert_comes<V: Judged>(
     rt: &(impl Abort + AllocGlobal),
@@ -115,7 +110,7 @@ pub fn assert_cases<V: Judged>(rt: &(impl Abort + AllocGlobal), cases: &[Case<V>
     for (label, parts, way, wanted, taken) in cases {
         match text_of(rt.alloc(), parts) {
             Some(text) => assert_comes(rt, row(label), &text, *way, wanted, *taken),
-            None => panic!(rt; "{label}: there is no memory for the text"),
+            None => fail_at(rt, row(label), "there is no memory for the text"),
         }
     }
 }

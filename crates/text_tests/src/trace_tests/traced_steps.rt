@@ -56,7 +56,7 @@ fn adds_all(steps: &mut Steps, lines: &[u8]) -> bool {
 }
 
 /// Returns the steps that the lines of a trace tell.
-pub fn steps_of(alloc: Global, lines: &str) -> Option<Steps> {
+fn steps_of(alloc: Global, lines: &str) -> Option<Steps> {
     let mut steps = Steps::new(alloc);
     if adds_all(&mut steps, lines.as_bytes()) {
         Some(steps)
