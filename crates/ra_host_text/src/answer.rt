@@ -25,7 +25,7 @@ pub enum Refusal {
 }
 
 /// What a host answers to a client about a name.
-#[derive(Clone, Copy, Debug, PartialEq, Eq)]
+#[derive(Clone, Copy)]
 pub enum Answer {
     /// `granted NAME SEQ NODE`: the client holds the name. The number and the node are its fencing token.
     Granted {

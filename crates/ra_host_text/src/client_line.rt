@@ -13,7 +13,7 @@ use ra_text::Draft;
 use ra_trace::{mode_of, name_of, rest_after, split_once, start_of};
 
 /// What a client says to its host, on a line.
-#[derive(Clone, Copy, Debug, PartialEq, Eq)]
+#[derive(Clone, Copy)]
 pub enum ClientLine {
     /// `lock NAME MODE`, or `lock NAME MODE within MS`: it asks for a name.
     Lock {

@@ -2,7 +2,7 @@ ghost use Rattle.std.specs.Prelude.{◌≡◌};
 ghost use Rattle.ra_host_text.specs.LineText.{fatal_status, fatal_word};
 
 /// Why a host ends.
-#[derive(Clone, Copy, Debug, PartialEq, Eq)]
+#[derive(Clone, Copy)]
 pub enum Fatal {
     /// It was started wrongly, or its first line is not its nonce.
     Usage,

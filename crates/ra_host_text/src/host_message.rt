@@ -32,7 +32,7 @@ impl fmt::Display for Unfit {
 
 /// What one host says to another one: what their link hears of it, with the settings of a host in a question, and the
 /// frame itself. A start is named by its nonce.
-#[derive(Clone, Copy, Debug, PartialEq, Eq)]
+#[derive(Clone, Copy)]
 pub enum HostMessage {
     /// `hello S.I NODES START ID`: a question.
     Hello {

@@ -13,7 +13,7 @@ use ra_stamp::{Mode, Name, NodeId};
 use ra_text::Draft;
 
 /// A line of what a host knows, which it answers to `status`. Times are how long it has been so, in milliseconds.
-#[derive(Clone, Copy, Debug, PartialEq, Eq)]
+#[derive(Clone, Copy)]
 pub enum StatusLine {
     /// `node I NODES START`: the host.
     Node {

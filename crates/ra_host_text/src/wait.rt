@@ -5,7 +5,7 @@ use std::marker::Model;
 
 /// For how long a client waits at most, in milliseconds: 0 to 2^53, so that any language with doubles can say it.
 /// Contracts see the number.
-#[derive(Clone, Copy, Debug, PartialEq, Eq)]
+#[derive(Clone, Copy)]
 pub struct Wait {
     milliseconds: u64,
 }

@@ -1,5 +1,5 @@
 /// Why a line is not what a host says to this one.
-#[derive(Clone, Copy, Debug, PartialEq, Eq)]
+#[derive(Clone, Copy)]
 pub enum MessageFault {
     /// It is no line of a host.
     Unknown,
