@@ -1,0 +1,3 @@
+pub mod Deadlock
+pub mod Lasting
+pub mod Ranks
