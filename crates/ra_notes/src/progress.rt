@@ -81,7 +81,7 @@ impl<'a, N: Write> MarksWatcher for Progress<'a, N> {
         self.followed.marks.take(line, mark);
     }
 
-    fn refused(&mut self, _line: u64, read: &Option<Line>) {
+    fn refused(&mut self, _line: u64, read: &Option<Line>, _cause: MarkCause) {
         self.followed.wrong = *read;
     }
 

@@ -34,7 +34,7 @@ always P (Some input) holds = holds
 
 -- ---- traces
 
-whole : (old new : Option (List ℕ)) (text : List ℕ) → Consumes old new text → IsAtEnd new → IfSome old (λ input. input ≡ text)
+pub whole : (old new : Option (List ℕ)) (text : List ℕ) → Consumes old new text → IsAtEnd new → IfSome old (λ input. input ≡ text)
 whole None new text all ended = tt
 whole (Some input) None text all ended = absurd all
 whole (Some input) (Some rest) text all ended = all ∙ ap (λ (bytes : List ℕ). text ++ bytes) ended ∙ append-nil text

@@ -17,7 +17,7 @@ use Rattle.ra_trace.proofs.Lengths.{body_is_short}
 abbrev pub NoFeed : List ℕ → Type 0
 NoFeed bytes = All (λ byte. byte ≢ 10) bytes
 
-free : (bytes : List ℕ) → NoFeed bytes → IsFree 10 bytes
+pub free : (bytes : List ℕ) → NoFeed bytes → IsFree 10 bytes
 free [] h = All-nil (λ b. (b == 10) ≡ false)
 free (b ∷ bytes) h =
     All-cons (λ b. (b == 10) ≡ false) b bytes (ne_eqb b 10 (All-head (λ byte. byte ≢ 10) b bytes h)) (free bytes (All-tail (λ byte. byte ≢ 10) b bytes h))

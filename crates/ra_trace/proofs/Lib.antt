@@ -31,3 +31,6 @@ pub mod Following
 pub mod MarksFollowing
 pub mod TraceFollowing
 pub mod Complete
+pub mod WrongOnes
+pub mod WholeLines
+pub mod LeavingOut

@@ -51,14 +51,14 @@ grants_after (Entered e ∷ marks) mark = omega (arith, grants_after marks mark)
 grants_after (Left e ∷ marks) mark = grants_after marks mark
 grants_after (Withdrawn e ∷ marks) mark = grants_after marks mark
 
-few_requests : (marks : List Mark) → requests_in marks ≤ length marks
+pub few_requests : (marks : List Mark) → requests_in marks ≤ length marks
 few_requests [] = omega arith
 few_requests (Requested e ∷ marks) = omega (arith, few_requests marks)
 few_requests (Entered e ∷ marks) = omega (arith, few_requests marks)
 few_requests (Left e ∷ marks) = omega (arith, few_requests marks)
 few_requests (Withdrawn e ∷ marks) = omega (arith, few_requests marks)
 
-few_grants : (marks : List Mark) → grants_in marks ≤ length marks
+pub few_grants : (marks : List Mark) → grants_in marks ≤ length marks
 few_grants [] = omega arith
 few_grants (Requested e ∷ marks) = omega (arith, few_grants marks)
 few_grants (Entered e ∷ marks) = omega (arith, few_grants marks)
@@ -95,7 +95,7 @@ few limit left old now log number along =
 
 -- ---- After right lines
 
-run_of : (log : MarkLog) (marks : List Mark) → IsLogOf log marks → IsMarkRun marks
+pub run_of : (log : MarkLog) (marks : List Mark) → IsLogOf log marks → IsMarkRun marks
 run_of log marks so_far = record { lines = so_far.lines; table = log.table; run = so_far.run }
 
 has_read : (limit left : ℕ) (old now new : Option (List ℕ)) (log : MarkLog) (number : ℕ) (bytes : List ℕ)
@@ -215,7 +215,7 @@ All-push : (P : Mark → Type 0) (marks : List Mark) (mark : Mark) → All P mar
 All-push P [] mark h p = All-cons P mark [] p (All-nil P)
 All-push P (m ∷ marks) mark h p = All-cons P m (marks ++ mark ∷ []) (All-head P m marks h) (All-push P marks mark (All-tail P m marks h) p)
 
-one_more : (marks : List Mark) (mark : Mark) (bytes : List ℕ) → bytes ≡ mark_line mark ++ []
+pub one_more : (marks : List Mark) (mark : Mark) (bytes : List ℕ) → bytes ≡ mark_line mark ++ []
     → marks_text marks ++ bytes ≡ marks_text (marks ++ mark ∷ [])
 one_more marks mark bytes is = ap (λ (xs : List ℕ). marks_text marks ++ xs) is ∙ sym (flat_map-append mark_line marks (mark ∷ []))
 
@@ -229,23 +229,26 @@ taken_more limit left old now new log number mark bytes along taken begins =
       omega (arith, ap length (sym is), length-append (marks_text along.marks) bytes, along.room, taken.1),
     )
 
+pub log_more : TableLaws → (log after : MarkLog) (marks : List Mark) (mark : Mark) → IsLogOf log marks → IsMarkLine Three mark
+    → TakesMark log mark after → IsLogOf after (marks ++ mark ∷ [])
+log_more laws log after marks mark so_far fits takes = record {
+  lines = All-push (IsMarkLine Three) marks mark so_far.lines fits;
+  run = laws.steps_on marks mark log.table after.table so_far.run takes.step;
+  requests_is = omega (arith, takes.requests_is, so_far.requests_is, requests_after marks mark);
+  grants_is = omega (arith, takes.grants_is, so_far.grants_is, grants_after marks mark);
+}
+
 more_there : TableLaws → (limit left : ℕ) (old now new : Option (List ℕ)) (log after : MarkLog) (number : ℕ) (mark : Mark) (bytes : List ℕ)
     → IsAlongMarks limit left old now log number → TakesBytes left now new bytes → BeginsReadable bytes (line.Marked mark) []
     → TakesMark log mark after → IsAlongMarks limit (left - length bytes) old new after (number + 1)
 more_there laws limit left old now new log after number mark bytes along taken begins takes =
-    let so_far = along.so_far in
     let more = taken_more limit left old now new log number mark bytes along taken begins in
     record {
       marks = along.marks ++ mark ∷ [];
       taken = more.0;
       room = more.1;
       number_is = omega (arith, along.number_is, length-append along.marks (mark ∷ []));
-      so_far = record {
-        lines = All-push (IsMarkLine Three) along.marks mark so_far.lines begins.0;
-        run = laws.steps_on along.marks mark log.table after.table so_far.run takes.step;
-        requests_is = omega (arith, takes.requests_is, so_far.requests_is, requests_after along.marks mark);
-        grants_is = omega (arith, takes.grants_is, so_far.grants_is, grants_after along.marks mark);
-      };
+      so_far = log_more laws log after along.marks mark along.so_far begins.0 takes;
     }
 
 -- the mark is allowed, and memory ran out

@@ -19,3 +19,5 @@ pub mod Following
 pub mod FollowingAlong
 pub mod Complete
 pub mod CompleteAlong
+pub mod LeftOut
+pub mod LeftOutAlong

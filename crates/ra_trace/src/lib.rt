@@ -30,8 +30,10 @@ pub use line::fields::{client_of, mode_of, name_of, node_of, seq_of, split_once,
 pub use line::forms::{Change, Fate, Field, LineKind, rest_after};
 pub use line::version::Version;
 pub use mark_log::follow::{follow_marks, follow_marks_with_end};
+pub use mark_log::left_out::check_all_marks;
 pub use mark_log::marks_verdict::{MarkCause, MarksVerdict};
 pub use mark_log::marks_watcher::{MarksSoFar, MarksWatcher};
+pub use mark_log::wrong_lines::{WrongLine, WrongLines};
 pub use mark_log::{
     check_marks, check_marks_buffered, check_marks_buffered_with_end, check_marks_within,
 };

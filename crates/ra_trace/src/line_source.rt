@@ -17,7 +17,7 @@ pub struct LineRoom {
     /// The line that was read, or `None` if what came is not one.
     pub line: Option<Line>,
     /// The bytes of a line, as far as they were read, if the reader does not show it whole.
-    bytes: LineBytes,
+    pub bytes: LineBytes,
 }
 
 impl LineRoom {

@@ -1,7 +1,10 @@
 //! Mark logs: whether what any lock service wrote down is a run of the lock table.
 pub mod follow;
+pub mod left_out;
 pub mod marks_verdict;
 pub mod marks_watcher;
+pub mod whole_lines;
+pub mod wrong_lines;
 
 ghost use Rattle.std.specs.Prelude.{◌≡◌, ◌↔◌, ◌<◌, ◌≤◌, ◌+◌, ◌∷◌, [], ℕ, List, Option, IfOk, IfErr, IfSome, IsErrOf};
 ghost use Rattle.std.specs.Io.KnownBytes.{Consumes};
@@ -12,6 +15,7 @@ ghost use Rattle.ra_table.specs.Table.{empty_table};
 ghost use Rattle.ra_trace.specs.Check.{ChecksLog};
 ghost use Rattle.ra_trace.specs.Complete.{TellsLog};
 ghost use Rattle.ra_trace.specs.CompleteAlong.{LogAtEnd, MeetsLogBy};
+ghost use Rattle.ra_trace.specs.LeftOutAlong.{TriedMark};
 ghost use Rattle.ra_trace.specs.Marks.{grants_in};
 ghost use Rattle.ra_trace.specs.MarksAlong.{IsAlongMarks, JudgedLine, JudgedMark, SomeMarkTaken, TurnsMarks};
 
@@ -68,6 +72,33 @@ impl MarkLog {
         }
     }
 
+    /// Takes the next mark, or returns why the lock table refuses it, and stays as it is. Without memory, nothing is
+    /// promised of the log.
+    ///
+    /// # Errors
+    ///
+    /// `Memory`: memory ran out.
+    #[inline(always)]
+    fn take_mark(&mut self, mark: &Mark) -> Result<Option<MarkCause>, TraceError>
+        requires requests { self.old.requests < 9223372036854775809 }
+        requires grants { self.old.grants < 9223372036854775809 }
+        ensures { TriedMark self.old mark.now self.new result }
+    {
+        let refused = match try_mark(&mut self.table, mark) {
+            Ok(refused) => refused,
+            Err(fault) => return Err(fault),
+        };
+        if refused.is_some() {
+            return Ok(refused);
+        }
+        match mark {
+            Mark::Requested(_) => self.requests += 1,
+            Mark::Entered(_) => self.grants += 1,
+            Mark::Left(_) | Mark::Withdrawn(_) => {}
+        }
+        Ok(None)
+    }
+
     /// Takes the next line, and says what it is. After a wrong mark, or without memory, nothing is promised of the log.
     ///
     /// # Errors
@@ -81,19 +112,11 @@ impl MarkLog {
         let Line::Marked(mark) = line else {
             return Ok(MarkJudgement::Wrong(MarkCause::Line));
         };
-        let refused = match try_mark(&mut self.table, mark) {
-            Ok(refused) => refused,
-            Err(fault) => return Err(fault),
-        };
-        if let Some(cause) = refused {
-            return Ok(MarkJudgement::Wrong(cause));
+        match self.take_mark(mark) {
+            Ok(None) => Ok(MarkJudgement::Right),
+            Ok(Some(cause)) => Ok(MarkJudgement::Wrong(cause)),
+            Err(fault) => Err(fault),
         }
-        match mark {
-            Mark::Requested(_) => self.requests += 1,
-            Mark::Entered(_) => self.grants += 1,
-            Mark::Left(_) | Mark::Withdrawn(_) => {}
-        }
-        Ok(MarkJudgement::Right)
     }
 }
 

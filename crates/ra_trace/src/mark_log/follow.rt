@@ -70,7 +70,7 @@ fn follow_in<B: BufRead, W: MarksWatcher>(
             Err(fault) => return Err(fault),
         };
         if let MarkJudgement::Wrong(cause) = next {
-            watcher.refused(line, &room.line);
+            watcher.refused(line, &room.line, cause);
             return Ok(MarksVerdict::Invalid { line, cause });
         }
         if let MarkJudgement::End = next {

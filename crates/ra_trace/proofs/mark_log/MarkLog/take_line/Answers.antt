@@ -19,7 +19,10 @@ pub returns-in_default : goal.returns-in_default
 returns-in_default c = no_mark c.args.self.now c.args.self.now c.args.line.now c.in_default.not-Marked
 
 pub returns-in-Err : goal.returns-in-Err
-returns-in-Err c = rw c.in-Marked.is c.in-Err.ensures.tries
+returns-in-Err c = rw c.in-Marked.is c.in-Err.ensures
 
-pub returns-in-Some : goal.returns-in-Some
-returns-in-Some c = rw c.in-Marked.is (rw c.in-Some.is at c.in-Ok.ensures.tries)
+pub returns-in-Ok-Some : goal.returns-in-Ok-Some
+returns-in-Ok-Some c = rw c.in-Marked.is (rw c.in-Ok-Some.field-0-is at c.in-Ok-Some.ensures).0
+
+pub returns-in-Ok-None : goal.returns-in-Ok-None
+returns-in-Ok-None c = rw c.in-Marked.is (rw c.in-Ok-None.field-0-is at c.in-Ok-None.ensures)
