@@ -3,7 +3,9 @@ use crate::text_asserting::assert_same;
 use crate::trace_tests::log_readers::{BOTH_INSIDE, TWO_WRITERS};
 use ra_explain::KeptMarks;
 use ra_stamp::{Mark, Memory};
-use ra_trace::{Line, MarksSoFar, MarksVerdict, MarksWatcher, TraceError, follow_marks};
+use ra_trace::{
+    Line, MarkCause, MarksSoFar, MarksVerdict, MarksWatcher, TraceError, follow_marks,
+};
 use std::alloc::Global;
 use test_support::row;
 
@@ -19,7 +21,7 @@ impl MarksWatcher for Keeper {
         self.kept.take(line, mark);
     }
 
-    fn refused(&mut self, _line: u64, read: &Option<Line>) {
+    fn refused(&mut self, _line: u64, read: &Option<Line>, _cause: MarkCause) {
         self.wrong = *read;
     }
 

@@ -44,7 +44,7 @@ impl MarksWatcher for Seen<MarksSoFar> {
         self.see();
     }
 
-    fn refused(&mut self, line: u64, _read: &Option<Line>) {
+    fn refused(&mut self, line: u64, _read: &Option<Line>, _cause: MarkCause) {
         self.wrong = Some(line);
     }
 
