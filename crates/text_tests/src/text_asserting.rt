@@ -1,7 +1,7 @@
 //! How a test ends that does not find what it should. `test_support` has what it prints then.
 use std::fmt::{Debug, Display};
 use std::process::Abort;
-use test_support::{At, Difference, Tried, misprint};
+use test_support::{At, Difference, misprint};
 
 /// Asserts that what came there is what was expected.
 pub fn assert_same<T: Debug + PartialEq>(rt: &impl Abort, at: At<'_>, came: &T, expected: &T) {
@@ -17,13 +17,6 @@ pub fn assert_prints<T: Display>(rt: &(impl Abort + AllocGlobal), rows: &[(T, &s
     }
 }
 
-/// Asserts that calls with a refused growth had the right answer, and changed nothing.
-pub fn assert_grown(rt: &impl Abort, tried: Tried) {
-    if let Some(fault) = tried.fault() {
-        fail(rt, fault);
-    }
-}
-
 /// Ends the test for this cause.
 pub fn fail(rt: &impl Abort, cause: &str) -> ! {
     panic!(rt; "{cause}");
@@ -32,9 +25,4 @@ pub fn fail(rt: &impl Abort, cause: &str) -> ! {
 /// Ends the test: nothing like this was expected there.
 pub fn fail_at(rt: &impl Abort, at: At<'_>, came: &str) -> ! {
     panic!(rt; "{at}: {came}");
-}
-
-/// Ends the test: this was refused there.
-pub fn fail_by<T: Display>(rt: &impl Abort, at: At<'_>, fault: &T) -> ! {
-    panic!(rt; "{at}: it is refused: {fault}");
 }

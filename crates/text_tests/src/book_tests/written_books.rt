@@ -1,6 +1,6 @@
 //! Books as they are written.
 use crate::shared_texts::all_kinds;
-use crate::text_asserting::{assert_same, fail_by};
+use crate::text_asserting::assert_same;
 use ra_book::{Book, BookError};
 use ra_book_text::push_book;
 use ra_stamp::{Memory, Mode, Name};
@@ -59,7 +59,7 @@ fn a_book_is_written_line_by_line(rt: HostRuntime) {
     let (at, mut text) = (row("the book"), String::new(rt.alloc()));
     let mut book = match Book::new(rt.alloc(), id(1), 2, 5) {
         Ok(book) => book,
-        Err(fault) => fail_by(&rt, at, &fault),
+        Err(fault) => panic!(rt; "{at}: there is none: {fault}"),
     };
     assert_same(&rt, at, &fill(&rt, &mut book), &Ok(()));
     assert_same(&rt, at, &text.push_str("earlier\n").is_ok(), &true);

@@ -1,11 +1,11 @@
 //! If a growth is refused, a book is not written for lack of memory, and the text is as before.
 use crate::book_tests::written_books::{TEXT, fill};
-use crate::text_asserting::{assert_grown, assert_same};
+use crate::text_asserting::assert_same;
 use ra_book::Book;
 use ra_book_text::{WriteBookError, push_book};
 use ra_stamp::Memory;
 use std::process::Abort;
-use test_support::{Tried, again, id, row};
+use test_support::{Tried, again, assert_grown, id, row};
 
 /// What the text has before the book.
 const EARLIER: &str = "earlier\n";
@@ -45,5 +45,5 @@ fn try_book(rt: &(impl Abort + AllocGlobal)) -> Result<Tried, Memory> {
 
 #[test]
 fn growth_of_the_text_of_a_book(rt: HostRuntime) {
-    assert_grown(&rt, again(try_book(&rt), try_book(&rt)));
+    assert_grown!(&rt, again(try_book(&rt), try_book(&rt)));
 }
