@@ -99,14 +99,19 @@ impl NameMarks {
                 true
             }
             Mark::Left(_) => {
-                self.open.retain(|open| open.entry != entry);
+                self.close(&entry);
                 keep_last(&mut self.released, &entry, line)
             }
             Mark::Withdrawn(_) => {
-                self.open.retain(|open| open.entry != entry);
+                self.close(&entry);
                 keep_last(&mut self.withdrawn, &entry, line)
             }
         }
+    }
+
+    /// Keeps no longer that an entry waits or holds.
+    fn close(&mut self, entry: &Entry) {
+        self.open.retain(|open| open.entry != *entry);
     }
 
     /// Keeps that an entry was granted in the line with this number.
