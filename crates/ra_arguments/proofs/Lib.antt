@@ -10,3 +10,4 @@ mod Sorts
 mod Examples
 mod OneCommand
 mod SeedOrder
+mod FileWords

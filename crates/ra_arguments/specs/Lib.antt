@@ -7,3 +7,4 @@ pub mod OptionTable
 pub mod Meanings
 pub mod Asked
 pub mod Helping
+pub mod FileWords

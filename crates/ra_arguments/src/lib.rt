@@ -4,6 +4,7 @@
 mod cluster_output;
 mod command;
 mod command_line;
+mod file_words;
 mod laws;
 mod lone_command;
 mod policy;
@@ -21,6 +22,7 @@ pub use command_line::input_kind::InputKind;
 pub use command_line::option_rows::{OptionRow, sim_options, values_of};
 pub use command_line::search::{Search, SurveyTask};
 pub use command_line::{CommandFault, PolicyName, Task};
+pub use file_words::{CommandWords, sort_words};
 pub use laws::{arguments_ask_for_one_command, surveyed_seeds_are_in_order};
 pub use policy::policy_of;
 pub use settle_arguments::{SettleOutput, SettleTask};

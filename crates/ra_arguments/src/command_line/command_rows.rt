@@ -85,6 +85,16 @@ fn row_of(name: &str) -> Option<CommandRow<'static>>
     None
 }
 
+/// Returns which command has a name, or `None`. It does not allocate.
+pub fn kind_called(name: &str) -> Option<CommandKind>
+    ensures { result ≡ command_called name.now }
+{
+    match row_of(name) {
+        Some(row) => Some(row.kind),
+        None => None,
+    }
+}
+
 /// Returns the command that the arguments name after the program, or `None`. It does not allocate.
 pub fn row_named(arguments: &[String]) -> Option<CommandRow<'static>>
     ensures { option_map (λ row. row.kind) result ≡ command_in (map string_bytes arguments.now) }

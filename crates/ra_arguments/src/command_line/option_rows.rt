@@ -1,6 +1,7 @@
 //! The options of the commands, each a row of a table, so that the same few lines make them all.
 ghost use Rattle.std.specs.Prelude.{◌≡◌, map, false};
 ghost use Rattle.clap.specs.Words.{rule_of};
+ghost use Rattle.ra_arguments.specs.FileWords.{is_taking, options_after, takes_next as takes_next_by};
 ghost use Rattle.ra_arguments.specs.OptionTable.{AreOfCommand, rule_of_row};
 ghost use Rattle.ra_arguments.specs.SettleArguments as spec;
 
@@ -321,6 +322,16 @@ impl<'a> OptionRow<'a> {
         }
     }
 
+    /// Returns whether an argument is the option, and the next argument is its value. It does not allocate.
+    fn takes_next(&self, argument: &str) -> bool
+        ensures { result ≡ takes_next_by argument.now (rule_of_row self.now) }
+    {
+        match argument.as_bytes().strip_prefix(b"--") {
+            Some(name) => matches!(self.action, ArgAction::Set) && name == self.name.as_bytes(),
+            None => false,
+        }
+    }
+
     /// Returns what there is to say of the option if it is given and has no effect under this policy, or `None` if it
     /// has one. It does not allocate.
     pub fn unused_under(&self, policy: &str) -> Option<&'a str> {
@@ -348,6 +359,29 @@ pub fn is_flag_among(rows: &[OptionRow<'_>], argument: &str) -> bool
         }
     }
     false
+}
+
+/// Returns whether an argument is one of these options, and the next argument is its value. It does not allocate.
+fn is_taking_among(rows: &[OptionRow<'_>], argument: &str) -> bool
+    ensures { result ≡ is_taking (map rule_of_row rows.now) argument.now }
+{
+    for row in rows {
+        if row.takes_next(argument) {
+            return true;
+        }
+    }
+    false
+}
+
+/// Returns whether an argument is an option of a command of this kind, and the next argument is its value. An unknown
+/// command has no options. It does not allocate.
+pub fn takes_next(kind: Option<CommandKind>, argument: &str) -> bool
+    ensures { result ≡ is_taking (options_after kind) argument.now }
+{
+    match kind {
+        Some(kind) => is_taking_among(options_of(kind), argument),
+        None => false,
+    }
 }
 
 /// Returns which values the option takes that an argument names, or `None` if it names none that takes a value. No two
