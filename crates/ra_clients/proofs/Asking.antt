@@ -87,7 +87,7 @@ module _ (k : ℕ) (name : List ℕ) where
       → Comes (Lock c other mode within) (locks_as o l unused s c other mode until)
   locks_come (Some j) l unused s c other mode until within its none = asks_come (lock_refusal other l.names (s.uses_of j)) s c j other mode until within its none
   locks_come None l unused s c other mode until within its none =
-      cond_both (is_full l s) _ _ (Comes (Lock c other mode within)) (λ _. inl none)
+      cond_both (is_full l s unused) _ _ (Comes (Lock c other mode within)) (λ _. inl none)
       (λ _. asks_come (lock_refusal other l.names (s.uses_of unused)) (numbered s c unused) c unused other mode until within (rw (eq-eqb c c refl) refl) none)
 
   unlocks_come : (o : Option NameUse) (s : Clients) (c j : ℕ) (other : List ℕ) → Lacks s → Lacks (unlocks_use o s c j other).clients

@@ -1,6 +1,6 @@
 -- How many connections have a number after a turn.
 use Rattle.std.proofs.Common.{◌≡◌, ◌≢◌, ℕ, ◌+◌, ◌<◌, ◌≤◌, zero, suc, List, Option, Some, None, refl, sym, ap, subst, ◌∙◌, inl, inr, arith}
-use Rattle.std.specs.Prelude.{nat_le}
+use Rattle.std.specs.Prelude.{nat_le, ◌^◌, ◌||◌}
 use Rattle.std.proofs.lemmas.Bool.{cases_eq, cond_both, eq-eqb, leb-false, ne_eqb, or_parts}
 use Rattle.ra_stamp.specs.declared.mode.Mode.{Mode}
 use Rattle.ra_host_text.specs.declared.answer.Refusal.{Refusal}
@@ -130,9 +130,9 @@ module _ (l : Limits) where
     locks_count : (o : Option ℕ) (unused : ℕ) (c : ℕ) (name : List ℕ) (mode : Mode) (until : Option ℕ) → s.number_of c ≡ o → CountsIn (locks_as o l unused s c name mode until)
     locks_count (Some j) unused c name mode until is = asks_count (lock_refusal name l.names (s.uses_of j)) s c j name mode until
     locks_count None unused c name mode until is =
-        cond_both (is_full l s) _ _ CountsIn (λ _. counts_all s)
+        cond_both (is_full l s unused) _ _ CountsIn (λ _. counts_all s)
         (λ room.
-        let free = leb-false l.clients s.count (or_parts (nat_le l.clients s.count) (nat_le l.names 0) room).0 in
+        let free = leb-false l.clients s.count (or_parts (nat_le l.clients s.count) (nat_le l.names 0 || nat_le (2 ^ 32) unused) room).0 in
         counts_both s (numbered s c unused) _ (counts_numbered s c unused is free)
         (asks_count (lock_refusal name l.names (s.uses_of unused)) (numbered s c unused) c unused name mode until))
 

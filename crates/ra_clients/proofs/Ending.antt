@@ -9,7 +9,7 @@ use Rattle.ra_host_text.specs.declared.answer.Refusal.{Refusal}
 use Rattle.ra_clients.specs.declared.uses.NameUse.{NameUse}
 use Rattle.ra_clients.specs.declared.uses.Standing.{Standing}
 use Rattle.ra_clients.specs.declared.uses.Standing.TheVariants.{Waits, Holds}
-use Rattle.ra_clients.specs.Uses.{use_of, waits_for, lock_refusal, is_past, until_of}
+use Rattle.ra_clients.specs.Uses.{use_of, waits, waits_for, lock_refusal}
 use Rattle.ra_clients.specs.Clients.{Limits, Clients, Turn, Event, Turns, IsLeaving, is_full, numbered, asks_unless, locks_as, until_at, given_back, unlocks_use, unlocks_as}
 use Rattle.ra_clients.specs.Clients.Event.{Lock, Unlock, Bad, Refuse, Enter, Gone, Time, Release, Give_up, Give_back}
 use Rattle.ra_clients.specs.Laws.{IsHolder, Lead, NeverLeaves, TellsUnlocked}
@@ -37,7 +37,7 @@ module _ (k : ℕ) (name : List ℕ) where
   locks_because : (o : Option ℕ) (l : Limits) (unused : ℕ) (s : Clients) (c : ℕ) (other : List ℕ) (mode : Mode) (until : Option ℕ) → Because s (locks_as o l unused s c other mode until)
   locks_because (Some j) l unused s c other mode until = asks_because s (lock_refusal other l.names (s.uses_of j)) s c j other mode until
   locks_because None l unused s c other mode until =
-      cond_both (is_full l s) _ _ (Because s) (λ _ is. absurd (nothing (Leave k name) is))
+      cond_both (is_full l s unused) _ _ (Because s) (λ _ is. absurd (nothing (Leave k name) is))
       (λ _. asks_because s (lock_refusal other l.names (s.uses_of unused)) (numbered s c unused) c unused other mode until)
 
   unlocks_because : (o : Option NameUse) (s : Clients) (c j : ℕ) (other : List ℕ) → s.number_of c ≡ Some j → Because s (unlocks_use o s c j other)
@@ -55,8 +55,8 @@ module _ (k : ℕ) (name : List ℕ) where
   unlock_because None s c other its is = absurd (nothing (Leave k name) is)
   unlock_because (Some j) s c other its is = unlocks_because (use_of other (s.uses_of j)) s c j other its is
 
-  never_past : (now : ℕ) (standing : Standing) → is_past now (until_of standing) ≡ true → standing ≡ Holds → ⊥
-  never_past now standing past holds = false≢true (sym (ap (λ (x : Standing). is_past now (until_of x)) holds) ∙ past)
+  never_past : (standing : Standing) (until : Option ℕ) → standing ≡ Waits until → standing ≡ Holds → ⊥
+  never_past standing until is holds = false≢true (sym (ap waits holds) ∙ ap waits is)
 
   pub ends_by : (l : Limits) (s : Clients) (e : Event) (t : Turn) → Turns l s e t → Because s t
   ends_by l s (Lock c other mode within) t is =
@@ -82,7 +82,7 @@ module _ (k : ℕ) (name : List ℕ) where
   ends_by l s (Give_up j other) t is =
       λ does.
       let same = given_is j k other name is.0.waiting.standing (ap (λ (x : Turn). x.does) (sym is.1) ∙ does) in
-      absurd (never_past s.now is.0.waiting.standing is.0.past same.2)
+      absurd (never_past is.0.waiting.standing (Some is.0.until) is.0.waits same.2)
   ends_by l s (Give_back j other) t is =
       λ does.
       let same = given_is j k other name is.1.0.standing (ap (λ (x : Turn). x.does) (sym is.1.2) ∙ does) in

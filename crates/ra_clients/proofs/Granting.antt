@@ -56,7 +56,7 @@ module _ (c : ℕ) (name : List ℕ) (seq node : ℕ) where
   locks_quiet : (o : Option ℕ) (l : Limits) (unused : ℕ) (s : Clients) (d : ℕ) (other : List ℕ) (mode : Mode) (until : Option ℕ) → Quiet (locks_as o l unused s d other mode until)
   locks_quiet (Some j) l unused s d other mode until = asks_quiet (lock_refusal other l.names (s.uses_of j)) s d j other mode until
   locks_quiet None l unused s d other mode until =
-      cond_both (is_full l s) _ _ Quiet (λ _. refused d other Limit)
+      cond_both (is_full l s unused) _ _ Quiet (λ _. refused d other Limit)
       (λ _. asks_quiet (lock_refusal other l.names (s.uses_of unused)) (numbered s d unused) d unused other mode until)
 
   unlocks_quiet : (o : Option NameUse) (s : Clients) (d j : ℕ) (other : List ℕ) → Quiet (unlocks_use o s d j other)

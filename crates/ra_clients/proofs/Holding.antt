@@ -61,7 +61,7 @@ module _ (u : NameUse) (e : Event) (k : ℕ) (name : List ℕ) where
   locks_stay : (o : Option ℕ) (l : Limits) (unused : ℕ) (s : Clients) (c : ℕ) (other : List ℕ) (mode : Mode) (until : Option ℕ) → Has s → Accounts (locks_as o l unused s c other mode until)
   locks_stay (Some j) l unused s c other mode until has = asks_stay (lock_refusal other l.names (s.uses_of j)) s c j other mode until has
   locks_stay None l unused s c other mode until has =
-      cond_both (is_full l s) _ _ Accounts (λ _. inl (same_uses u s k name has s refl))
+      cond_both (is_full l s unused) _ _ Accounts (λ _. inl (same_uses u s k name has s refl))
       (λ _. asks_stay (lock_refusal other l.names (s.uses_of unused)) (numbered s c unused) c unused other mode until has)
 
   -- a use ends

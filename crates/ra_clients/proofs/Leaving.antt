@@ -138,7 +138,7 @@ module _ (k : ℕ) (s : Clients) where
   locks_keep : (o : Option ℕ) (l : Limits) (unused : ℕ) (c : ℕ) (name : List ℕ) (mode : Mode) (until : Option ℕ) → IsUnused s unused → KeepsIn (locks_as o l unused s c name mode until)
   locks_keep (Some j) l unused c name mode until is = asks_keep (lock_refusal name l.names (s.uses_of j)) s c j name mode until
   locks_keep None l unused c name mode until is =
-      cond_both (is_full l s) _ _ KeepsIn (λ _. keeps_all k s)
+      cond_both (is_full l s unused) _ _ KeepsIn (λ _. keeps_all k s)
       (λ _.
       keeps_both k s (numbered s c unused) _ refl (keeps_numbered s c unused is k)
       (asks_keep (lock_refusal name l.names (s.uses_of unused)) (numbered s c unused) c unused name mode until))

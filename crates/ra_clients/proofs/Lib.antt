@@ -11,5 +11,10 @@ pub mod Leaving
 pub mod TimeOrder
 pub mod Once
 pub mod Unlocking
-pub mod Told
+pub mod AtNode
+pub mod InStep
+pub mod RosterCalls
 pub mod Shown
+pub mod Numbered
+pub mod Locking
+pub mod Found

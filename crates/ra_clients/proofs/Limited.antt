@@ -64,7 +64,7 @@ module _ (l : Limits) (k : ℕ) where
   locks_within : (o : Option ℕ) (unused : ℕ) (s : Clients) (c : ℕ) (name : List ℕ) (mode : Mode) (until : Option ℕ) → After s (locks_as o l unused s c name mode until)
   locks_within (Some j) unused s c name mode until = asks_within (lock_refusal name l.names (s.uses_of j)) s c j name mode until refl
   locks_within None unused s c name mode until =
-      cond_both (is_full l s) _ _ (After s) (λ _ within. within)
+      cond_both (is_full l s unused) _ _ (After s) (λ _ within. within)
       (λ _. asks_within (lock_refusal name l.names (s.uses_of unused)) (numbered s c unused) c unused name mode until refl)
 
   unlocks_within : (o : Option NameUse) (s : Clients) (c j : ℕ) (name : List ℕ) → After s (unlocks_use o s c j name)

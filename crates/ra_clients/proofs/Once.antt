@@ -10,7 +10,7 @@ use Rattle.ra_clients.specs.declared.uses.NameUse.{NameUse}
 use Rattle.ra_clients.specs.Uses.{use_of, waits_for, new_use, let_in, without, lock_refusal}
 use Rattle.ra_clients.specs.Clients.{Limits, Clients, Turn, Event, Turns, with_uses, is_full, numbered, asks_unless, locks_as, until_at, unlocks_use, unlocks_as, unconnected, goes}
 use Rattle.ra_clients.specs.Clients.Event.{Lock, Unlock, Bad, Refuse, Enter, Gone, Time, Release, Give_up, Give_back}
-use Rattle.ra_clients.specs.Told.{AreOnce, AreDistinct}
+use Rattle.ra_clients.specs.AtNode.{AreOnce, AreDistinct}
 use Rattle.ra_clients.proofs.Holding.{at_other, at_same, not_it}
 use Rattle.ra_clients.proofs.NamedUses.{none_some, same_name, its_own, differs, after_end, after_other_entry}
 
@@ -102,7 +102,7 @@ module _ (name : List ℕ) where
 
 -- ---- Changes of a list
 
-once_pushed : (us : List NameUse) (v : NameUse) → AreOnce us → use_of v.name us ≡ None → AreOnce (us ++ v ∷ [])
+pub once_pushed : (us : List NameUse) (v : NameUse) → AreOnce us → use_of v.name us ≡ None → AreOnce (us ++ v ∷ [])
 once_pushed us v once new = λ name. by name (use_of name us) refl
   where
     by : (name : List ℕ) (o : Option NameUse) → use_of name us ≡ o → use_of name (without name (us ++ v ∷ [])) ≡ None
@@ -113,7 +113,7 @@ once_pushed us v once new = λ name. by name (use_of name us) refl
         let last : use_of name (v ∷ []) ≡ None = rw other refl in
         ap (use_of name) (without_first name us (v ∷ []) x is) ∙ (past name (without name us) (v ∷ []) (once name) ∙ last)
 
-once_ended : (us : List NameUse) (other : List ℕ) → AreOnce us → AreOnce (without other us)
+pub once_ended : (us : List NameUse) (other : List ℕ) → AreOnce us → AreOnce (without other us)
 once_ended us other once =
     λ name.
     elim (cases_Bool (bytes_eq name other)) [
@@ -126,7 +126,7 @@ once_ended us other once =
           ap (use_of name) (both_without name other apart us) ∙ (after_end name other (without name us) apart ∙ once name)
     ]
 
-once_entered : (us : List NameUse) (other : List ℕ) (now : ℕ) → AreOnce us → AreOnce (let_in other now us)
+pub once_entered : (us : List NameUse) (other : List ℕ) (now : ℕ) → AreOnce us → AreOnce (let_in other now us)
 once_entered us other now once =
     λ name.
     elim (cases_Bool (bytes_eq name other)) [
@@ -174,7 +174,7 @@ module _ (l : Limits) where
   locks_distinct : (o : Option ℕ) (unused : ℕ) (s : Clients) (c : ℕ) (name : List ℕ) (mode : Mode) (until : Option ℕ) → After s (locks_as o l unused s c name mode until)
   locks_distinct (Some j) unused s c name mode until = asks_distinct (lock_refusal name l.names (s.uses_of j)) s c j name mode until refl
   locks_distinct None unused s c name mode until =
-      cond_both (is_full l s) _ _ (After s) (λ _ distinct. distinct)
+      cond_both (is_full l s unused) _ _ (After s) (λ _ distinct. distinct)
       (λ _ distinct.
       asks_distinct (lock_refusal name l.names (s.uses_of unused)) (numbered s c unused) c unused name mode until refl
       (same_all s (numbered s c unused) (λ k. refl) distinct))

@@ -1,6 +1,6 @@
 -- A turn that tells a refusal changes nothing, but for one in which the node refuses a name.
 use Rattle.std.proofs.Common.{◌≡◌, ℕ, true, false, List, Option, Some, None, refl, sym, ap, subst, ◌∙◌, inl, inr}
-use Rattle.std.specs.Prelude.{Contains, nat_le}
+use Rattle.std.specs.Prelude.{Contains, nat_le, ◌^◌, ◌||◌}
 use Rattle.std.proofs.lemmas.Bool.{cond_both, false≢true, or_parts}
 use Rattle.ra_stamp.specs.declared.mode.Mode.{Mode}
 use Rattle.ra_host_text.specs.declared.answer.Answer.{Answer}
@@ -57,9 +57,9 @@ module _ (c : ℕ) (name : List ℕ) (why : Refusal) where
       → Unchanged s e (locks_as o l unused s d other mode until)
   locks_nothing (Some j) l unused e s d other mode until is = asks_nothing (lock_refusal other l.names (s.uses_of j)) e s d j other mode until
   locks_nothing None l unused e s d other mode until is =
-      cond_both (is_full l s) _ _ (Unchanged s e) (λ _ has. inl (refl, refl, refl))
+      cond_both (is_full l s unused) _ _ (Unchanged s e) (λ _ has. inl (refl, refl, refl))
       (λ room has.
-      let none = fresh l s unused other is (or_parts (nat_le l.clients s.count) (nat_le l.names 0) room).1 in
+      let none = fresh l s unused other is (or_parts (nat_le l.names 0) (nat_le (2 ^ 32) unused) (or_parts (nat_le l.clients s.count) (nat_le l.names 0 || nat_le (2 ^ 32) unused) room).1).0 in
       absurd
       (nothing_in (c, Refused name why)
       (subst (λ (o : Option Refusal). Tells (asks_unless o (numbered s d unused) d unused other mode until)) none has)))

@@ -12,7 +12,7 @@ use Rattle.ra_clients.specs.Uses.{use_of, waits_for, without, lock_refusal}
 use Rattle.ra_clients.specs.Clients.{Limits, Clients, Turn, Event, Turns, told, is_full, numbered, asks_unless, locks_as, until_at, given_back, unlocks_use, unlocks_as}
 use Rattle.ra_clients.specs.Clients.Event.{Lock, Unlock, Bad, Refuse, Enter, Gone, Time, Release, Give_up, Give_back}
 use Rattle.ra_clients.specs.Laws.{IsUnlock}
-use Rattle.ra_clients.specs.Told.{AreDistinct}
+use Rattle.ra_clients.specs.AtNode.{AreDistinct}
 use Rattle.ra_clients.proofs.Granting.{nothing_in, only_one}
 use Rattle.ra_clients.proofs.Holding.{at_same}
 
@@ -46,7 +46,7 @@ module _ (c : ℕ) (name : List ℕ) where
   locks_quiet : (o : Option ℕ) (l : Limits) (unused : ℕ) (s : Clients) (d : ℕ) (other : List ℕ) (mode : Mode) (until : Option ℕ) → Quiet (locks_as o l unused s d other mode until)
   locks_quiet (Some j) l unused s d other mode until = asks_quiet (lock_refusal other l.names (s.uses_of j)) s d j other mode until
   locks_quiet None l unused s d other mode until =
-      cond_both (is_full l s) _ _ Quiet (λ _. refused d other Limit)
+      cond_both (is_full l s unused) _ _ Quiet (λ _. refused d other Limit)
       (λ _. asks_quiet (lock_refusal other l.names (s.uses_of unused)) (numbered s d unused) d unused other mode until)
 
   abbrev Unlocks : Clients → Event → Turn → Type 0

@@ -1,8 +1,9 @@
 -- What is at the place of a name in a client's list, and what is after it.
-use Rattle.std.proofs.Common.{◌≡◌, ℕ, zero, suc, ◌<◌, true, false, cond, List, [], ◌∷◌, length, get_or, drop, set, Some, None, refl, ap, arith, drop-cons}
+use Rattle.std.proofs.Common.{◌≡◌, ℕ, zero, suc, ◌<◌, true, false, cond, List, [], ◌∷◌, length, get_or, set, Some, None, refl, sym, ap, subst, arith}
 use Rattle.std.specs.List.{remove}
 use Rattle.ra_clients.specs.declared.uses.NameUse.{NameUse}
-use Rattle.ra_clients.specs.Uses.{is_of, use_of, let_in, held_use, without, overdue, is_past, until_of, first_end, earlier}
+use Rattle.ra_clients.proofs.NamedUses.{its_own}
+use Rattle.ra_clients.specs.Uses.{is_of, use_of, let_in, held_use, without}
 
 -- the name is at this place, and at none before it
 pub record IsFirst (name : List ℕ) (us : List NameUse) (place : ℕ) : Type 0 where
@@ -48,11 +49,7 @@ module _ (name : List ℕ) where
   none_without [] none = refl
   none_without (u ∷ us) none = rw (none 0 u (omega arith)) (ap (λ (vs : List NameUse). u ∷ vs) (none_without us (rest_nowhere u us none)))
 
--- ---- Times
-
-module _ (us : List NameUse) (k : ℕ) (d : NameUse) (low : k < length us) where
-  pub end_more : first_end (drop k us) ≡ earlier (until_of (get_or us k d).standing) (first_end (drop (suc k) us))
-  end_more = ap first_end (drop-cons us k d low)
-
-  pub due_more : (now : ℕ) → overdue now (drop k us) ≡ cond (is_past now (until_of (get_or us k d).standing)) (Some (get_or us k d).name) (overdue now (drop (suc k) us))
-  due_more now = ap (overdue now) (drop-cons us k d low)
+-- the first use is that of its name
+pub first_named : (us : List NameUse) (u d : NameUse) → 0 < length us → u ≡ get_or us 0 d → use_of u.name us ≡ Some u
+first_named [] u d some is = absurd (omega (arith, some))
+first_named (x ∷ us) u d some is = subst (λ (v : NameUse). use_of v.name (x ∷ us) ≡ Some v) (sym is) (rw (its_own x.name) refl)

@@ -1,5 +1,5 @@
 -- The clients of a host. There is one definition for each thing that a client says, and for each thing that happens.
-use Rattle.std.specs.Prelude.{◌≡◌, ℕ, ◌+◌, ◌-◌, ◌<◌, ◌==◌, max, nat_le, Bool, true, false, ◌&&◌, ◌||◌, not, if◌then◌else◌, List, [], ◌∷◌, ◌++◌, Option, Some, None}
+use Rattle.std.specs.Prelude.{◌≡◌, ℕ, ◌+◌, ◌-◌, ◌^◌, ◌<◌, ◌≤◌, ◌==◌, max, min, nat_le, Bool, true, false, ◌&&◌, ◌||◌, not, if◌then◌else◌, List, [], ◌∷◌, ◌++◌, Option, Some, None}
 use Rattle.ra_stamp.specs.declared.mode.Mode.{Mode}
 use Rattle.ra_book.specs.declared.book.event.BookKind.{BookKind}
 use Rattle.ra_book.specs.declared.book.event.BookKind.TheVariants.{Ask, Leave, Cancel}
@@ -10,7 +10,7 @@ use Rattle.ra_host_text.specs.declared.answer.Refusal.TheVariants.{Limit, NotHel
 use Rattle.ra_clients.specs.declared.uses.NameUse.{NameUse}
 use Rattle.ra_clients.specs.declared.uses.Standing.{Standing}
 use Rattle.ra_clients.specs.declared.uses.Standing.TheVariants.{Waits, Holds}
-use Rattle.ra_clients.specs.Uses.{use_of, waits_for, new_use, let_in, without, lock_refusal, is_past, until_of}
+use Rattle.ra_clients.specs.Uses.{use_of, waits_for, new_use, let_in, without, lock_refusal}
 
 -- how many clients with a number there may be at once, and how many names each of them may hold or wait for
 pub record Limits : Type 0 where
@@ -83,21 +83,21 @@ asks_unless None s c k name mode until =
 abbrev pub asks : Limits → Clients → ℕ → ℕ → List ℕ → Mode → Option ℕ → Turn
 asks l s c k name mode until = asks_unless (lock_refusal name l.names (s.uses_of k)) s c k name mode until
 
--- whether no further client may ask
-abbrev pub is_full : Limits → Clients → Bool
-is_full l s = nat_le l.clients s.count || nat_le l.names 0
+-- whether no further client may ask, if it would get this number: there are 2^32 of them
+abbrev pub is_full : Limits → Clients → ℕ → Bool
+is_full l s unused = nat_le l.clients s.count || (nat_le l.names 0 || nat_le (2 ^ 32) unused)
 
 -- a client that has no number yet gets this one, unless there are as many clients as there may be
 abbrev pub locks_as : Option ℕ → Limits → ℕ → Clients → ℕ → List ℕ → Mode → Option ℕ → Turn
 locks_as (Some k) l unused s c name mode until = asks l s c k name mode until
 locks_as None l unused s c name mode until =
-    if is_full l s then tells s c (Refused name Limit)
+    if is_full l s unused then tells s c (Refused name Limit)
     else asks l (numbered s c unused) c unused name mode until
 
--- when it gives up, if it does
+-- when it gives up, if it does: at the last time of all, if that comes first
 abbrev pub until_at : ℕ → Option ℕ → Option ℕ
 until_at now None = None
-until_at now (Some within) = Some (now + within)
+until_at now (Some within) = Some (min (now + within) (2 ^ 64 - 1))
 
 abbrev pub locks : Limits → ℕ → Clients → ℕ → List ℕ → Mode → Option ℕ → Turn
 locks l unused s c name mode within =
@@ -200,7 +200,9 @@ releases s = silent (record s { is_kept = λ k. false })
 pub record IsOverdue (s : Clients) (k : ℕ) (name : List ℕ) : Type 0 where
   pub waiting : NameUse
   pub is : use_of name (s.uses_of k) ≡ Some waiting
-  pub past : is_past s.now (until_of waiting.standing) ≡ true
+  pub until : ℕ
+  pub waits : waiting.standing ≡ Waits (Some until)
+  pub past : until ≤ s.now
 
 abbrev pub times_out : Clients → ℕ → List ℕ → Standing → Turn
 times_out s k name standing = ends s k name standing (told (s.connection_of k) (Timeout name))

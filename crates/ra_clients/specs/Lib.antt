@@ -5,6 +5,9 @@ pub mod Times
 pub mod Clients
 pub mod Counts
 pub mod Laws
-pub mod Told
+pub mod AtNode
 pub mod Table
+pub mod Roster
+pub mod RosterUse
+pub mod Results
 pub mod Shown

@@ -1,5 +1,5 @@
 -- The numbers by which the book knows clients: which are used, and which is the least that is not.
-use Rattle.std.specs.Prelude.{◌≡◌, ℕ, ◌<◌, Bool, true, false, ◌&&◌, ◌||◌, not, nat_lt}
+use Rattle.std.specs.Prelude.{◌≡◌, ℕ, ◌<◌, ◌^◌, Bool, true, false, ◌&&◌, ◌||◌, not, nat_lt}
 use Rattle.std.specs.BTreeSet.{BTreeSet, contains}
 use Rattle.std.specs.Ordering.{nat_cmp}
 
@@ -12,3 +12,7 @@ is_used_in next free before number =
 abbrev pub AreFree : ℕ → BTreeSet ℕ → BTreeSet ℕ → Type 0
 AreFree next free before =
     (number : ℕ) → contains nat_cmp free number ≡ true → (number < next) × (contains nat_cmp before number ≡ false)
+
+-- each of these is a number that a client can have
+abbrev pub AreWithin : BTreeSet ℕ → Type 0
+AreWithin before = (number : ℕ) → contains nat_cmp before number ≡ true → number < 2 ^ 32

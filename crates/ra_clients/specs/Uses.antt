@@ -1,5 +1,5 @@
 -- The names that a client holds or waits for, in the order in which it asked for them.
-use Rattle.std.specs.Prelude.{ℕ, Bool, true, false, nat_le, if◌then◌else◌, List, [], ◌∷◌, length, min, Option, Some, None, is_some}
+use Rattle.std.specs.Prelude.{ℕ, Bool, true, false, nat_le, if◌then◌else◌, List, [], ◌∷◌, length, Option, Some, None, is_some}
 use Rattle.std.specs.Str.{bytes_eq}
 use Rattle.ra_host_text.specs.declared.answer.Refusal.{Refusal}
 use Rattle.ra_host_text.specs.declared.answer.Refusal.TheVariants.{Busy, Limit}
@@ -59,25 +59,3 @@ without name (u ∷ us) = if is_of name u then us else u ∷ without name us
 abbrev pub lock_refusal : List ℕ → ℕ → List NameUse → Option Refusal
 lock_refusal name most us =
     if is_some (use_of name us) then Some Busy else if nat_le most (length us) then Some Limit else None
-
--- ---- Times
-
--- the earlier of two times, if there are two
-abbrev pub earlier : Option ℕ → Option ℕ → Option ℕ
-earlier None b = b
-earlier (Some a) None = Some a
-earlier (Some a) (Some b) = Some (min a b)
-
--- the first time at which the client gives up a name
-abbrev pub first_end : List NameUse → Option ℕ
-first_end [] = None
-first_end (u ∷ us) = earlier (until_of u.standing) (first_end us)
-
-abbrev pub is_past : ℕ → Option ℕ → Bool
-is_past now None = false
-is_past now (Some until) = nat_le until now
-
--- the first name, in the order of the list, for which the time to wait is over
-abbrev pub overdue : ℕ → List NameUse → Option (List ℕ)
-overdue now [] = None
-overdue now (u ∷ us) = if is_past now (until_of u.standing) then Some u.name else overdue now us

@@ -8,7 +8,7 @@ ghost use Rattle.ra_clients.specs.Uses.{use_of, without};
 ghost use Rattle.ra_clients.specs.Clients.{Limits, Clients, Event, IsLeaving, Turn, Turns};
 ghost use Rattle.ra_clients.specs.Clients.Event.{Gone, Refuse};
 ghost use Rattle.ra_clients.specs.Counts.{IsCounted};
-ghost use Rattle.ra_clients.specs.Told.{AreDistinct, AreHeld, Holding, Step};
+ghost use Rattle.ra_clients.specs.AtNode.{AreDistinct, AreHeld, Holding, Step};
 ghost use Rattle.ra_clients.specs.Laws.{CanGiveBack, ChangesNothing, HoldsOrLeaves, IsAccountedFor, IsAsked, IsGrant, IsHolder, IsSound, IsTakenBack, IsUnconnected, IsUnlock, IsWithin, Lead, NeverLeaves, TellsGranted, TellsUnlocked};
 
 /// Told is held: a client that is told `granted` waited for the name and holds it now, since its node let it in in this

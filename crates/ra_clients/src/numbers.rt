@@ -1,8 +1,8 @@
 //! The numbers by which the book knows clients.
-ghost use Rattle.std.specs.Prelude.{◌≡◌, ◌<◌, ◌≤◌, ◌^◌, ℕ, false, true, IfSome, IfNone, OnOk, OnErr};
+ghost use Rattle.std.specs.Prelude.{◌≡◌, ◌<◌, ◌≤◌, ◌^◌, ℕ, false, true, MatchOption, IfSome, IfNone, OnOk, OnErr};
 ghost use Rattle.std.specs.BTreeSet.{contains};
 ghost use Rattle.std.specs.Ordering.{nat_cmp};
-ghost use Rattle.ra_clients.specs.Numbers.{AreFree};
+ghost use Rattle.ra_clients.specs.Numbers.{AreFree, AreWithin};
 
 use ra_stamp::Memory;
 use std::alloc::Global;
@@ -23,6 +23,7 @@ pub struct Numbers {
     before: BTreeSet<u32>,
     ghost are_free: { AreFree next free before },
     ghost fits: { next ≤ 2 ^ 32 },
+    ghost within: { AreWithin before },
 }
 
 /// Returns the least number from this one on that is not in the set.
@@ -42,16 +43,44 @@ fn first_absent(before: &BTreeSet<u32>, from: u64) -> Option<u32>
 }
 
 impl Numbers {
-    ghost use Rattle.ra_clients.specs.NumberUse.{is_used, AreAllUsed, GivesBack, IsLeastFree, Takes};
+    ghost use Rattle.ra_clients.specs.NumberUse.{is_before, is_used, AreAllUsed, AreSameNumbers, GivesBack, IsLeastFree, Keeps, Takes};
 
     /// No number is used. It does not allocate.
     pub fn new(alloc: Global) -> Numbers
-        ensures { (number : ℕ) → is_used result number ≡ false }
+        ensures used { (number : ℕ) → is_used result number ≡ false }
+        ensures before { (number : ℕ) → is_before result number ≡ false }
     {
         Numbers {
             next: 0,
             free: BTreeSet::new(alloc),
             before: BTreeSet::new(alloc),
+        }
+    }
+
+    /// Returns whether a client of before the start has the number. The cost is logarithmic. It does not allocate.
+    pub fn is_before(&self, number: u32) -> bool
+        ensures { result ≡ is_before self.now number }
+    {
+        self.before.contains(&number)
+    }
+
+    /// Returns a number that a client of before the start has, if there is one. The cost is logarithmic. It does not
+    /// allocate.
+    pub fn first_before(&self) -> Option<u32>
+        ensures { MatchOption result ((number : ℕ) → is_before self.now number ≡ false)
+            (λ number. is_before self.now number ≡ true) }
+    {
+        self.before.first().copied()
+    }
+
+    /// Returns the number that a new client would take, if there is one. The cost is as of `take`. It does not
+    /// allocate.
+    pub fn first_free(&self) -> Option<u32>
+        ensures { MatchOption result (AreAllUsed self.now) (IsLeastFree self.now) }
+    {
+        match self.free.first() {
+            Some(number) => Some(*number),
+            None => first_absent(&self.before, self.next),
         }
     }
 
@@ -61,8 +90,8 @@ impl Numbers {
     ///
     /// `Memory`: nothing has changed.
     pub fn keep(&mut self, number: u32) -> Result<(), Memory>
-        ensures ok { OnOk result (Takes self.old number self.new) }
-        ensures err { OnErr result ((other : ℕ) → is_used self.new other ≡ is_used self.old other) }
+        ensures ok { OnOk result (Keeps self.old number self.new) }
+        ensures err { OnErr result (AreSameNumbers self.old self.new) }
     {
         self.before.insert(number)?;
         self.free.remove(&number);
@@ -75,7 +104,7 @@ impl Numbers {
         ensures least { IfSome result (IsLeastFree self.old) }
         ensures takes { IfSome result (λ number. Takes self.old number self.new) }
         ensures none { IfNone result (AreAllUsed self.old) }
-        ensures unchanged { IfNone result ((other : ℕ) → is_used self.new other ≡ is_used self.old other) }
+        ensures unchanged { IfNone result (AreSameNumbers self.old self.new) }
     {
         if let Some(number) = self.free.pop_first() {
             return Some(number);
@@ -92,7 +121,7 @@ impl Numbers {
     /// `Memory`: nothing has changed.
     pub fn give_back(&mut self, number: u32) -> Result<(), Memory>
         ensures ok { OnOk result (GivesBack self.old number self.new) }
-        ensures err { OnErr result ((other : ℕ) → is_used self.new other ≡ is_used self.old other) }
+        ensures err { OnErr result (AreSameNumbers self.old self.new) }
     {
         if u64::from(number) < self.next {
             self.free.insert(number)?;

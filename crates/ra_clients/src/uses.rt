@@ -1,5 +1,5 @@
 //! The names that one client holds or waits for.
-ghost use Rattle.std.specs.Prelude.{◌≡◌, ◌<◌, ◌++◌, ◌∷◌, [], ℕ, true, false, if◌then◌else◌, length, slice_index_or, IfSome, IfNone, OnOk, OnErr};
+ghost use Rattle.std.specs.Prelude.{◌≡◌, ◌<◌, ◌++◌, ◌∷◌, [], ℕ, true, false, if◌then◌else◌, length, slice_index_or, Some, MatchOption, IfSome, IfNone, OnOk, OnErr};
 ghost use Rattle.ra_clients.specs.Uses as spec;
 ghost use Rattle.ra_clients.specs.Uses.{let_in, lock_refusal, new_use, use_of, waits_for, without};
 ghost use Rattle.ra_clients.specs.declared.uses.NameUse as listed;
@@ -90,6 +90,17 @@ pub fn find_use(uses: &[NameUse], name: &Name) -> Option<NameUse>
     Some(uses[place])
 }
 
+/// Returns the name for which the client asked first, if it has one. It does not allocate.
+#[tactic(auto, using(crate::proofs::UseLists::first_named))]
+pub fn first_use(uses: &[NameUse]) -> Option<NameUse>
+    ensures { MatchOption result (uses.now ≡ []) (λ first. use_of first.name uses.now ≡ Some first) }
+{
+    if uses.is_empty() {
+        return None;
+    }
+    Some(uses[0])
+}
+
 /// Returns why a client may not ask for a name, if it may not: `Busy`, if it holds the name or waits for it, and
 /// otherwise `Limit`, if it has the greatest number of names that it may have. The cost is linear in the number of its
 /// names. It does not allocate.
@@ -157,50 +168,4 @@ pub fn end_use(uses: &mut Vec<NameUse>, name: &Name) -> Option<NameUse>
         return None;
     };
     Some(uses.remove(place))
-}
-
-/// Returns the earlier of two times, if there are two.
-fn earlier(one: Option<u64>, other: Option<u64>) -> Option<u64>
-    ensures { result ≡ spec.earlier one other }
-{
-    match (one, other) {
-        (None, _) => other,
-        (_, None) => one,
-        (Some(one), Some(other)) => Some(one.min(other)),
-    }
-}
-
-/// Returns the first time at which the client gives up a name. The cost is linear in the number of its names. It does
-/// not allocate.
-pub fn first_end(uses: &[NameUse]) -> Option<u64>
-    ensures { result ≡ spec.first_end uses.now }
-{
-    let mut first = None;
-    for place in (0..uses.len()).rev() {
-        first = earlier(uses[place].standing.until(), first);
-    }
-    first
-}
-
-/// Returns whether a time has come.
-fn is_past(now: u64, until: Option<u64>) -> bool
-    ensures { result ≡ spec.is_past now until }
-{
-    match until {
-        Some(until) => until <= now,
-        None => false,
-    }
-}
-
-/// Returns the first name for which the time to wait is over. The cost is linear in the number of the client's names.
-/// It does not allocate.
-pub fn overdue(uses: &[NameUse], now: u64) -> Option<Name>
-    ensures { result ≡ spec.overdue now uses.now }
-{
-    for place in 0..uses.len() {
-        if is_past(now, uses[place].standing.until()) {
-            return Some(uses[place].name);
-        }
-    }
-    None
 }

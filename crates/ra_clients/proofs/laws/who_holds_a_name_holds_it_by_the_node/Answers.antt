@@ -1,4 +1,4 @@
-use Rattle.ra_clients.proofs.Told.{step_holds}
+use Rattle.ra_clients.proofs.AtNode.{step_holds}
 use Rattle.ra_clients.proofs.laws.who_holds_a_name_holds_it_by_the_node.Goals as goal
 
 pub returns-clause-distinct : goal.returns-clause-distinct

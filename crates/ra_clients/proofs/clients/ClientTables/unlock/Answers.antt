@@ -1,27 +1,26 @@
-use Rattle.std.proofs.Common.{◌≡◌, false, Some, refl, sym, ◌∙◌}
+use Rattle.std.proofs.Common.{◌≡◌, Some, refl, sym, ◌∙◌}
 use Rattle.std.specs.BTreeMap.{get}
-use Rattle.std.specs.BTreeSet.{contains}
 use Rattle.std.specs.Ordering.{nat_cmp}
-use Rattle.ra_clients.specs.declared.clients.ClientTables.{ClientTables}
-use Rattle.ra_clients.proofs.Shown.{unlock_unused, unlock_used}
+use Rattle.ra_clients.specs.Clients.{unlocks}
+use Rattle.ra_clients.proofs.NamedUses.{none_some}
+use Rattle.ra_clients.proofs.Shown.{not_held}
 use Rattle.ra_clients.proofs.clients.ClientTables.unlock.Goals as goal
 
-pub returns-in_default-end_at : goal.returns-in_default-end_at
-returns-in_default-end_at c =
-    λ s shows.
+pub returns-in-Ok-None : goal.returns-in-Ok-None
+returns-in-Ok-None c =
+    λ l s shows.
     let old = c.args.self.now in
-    let new : ClientTables = record { now = old.now; number_of = old.number_of; closed = old.closed; clients = c.end_at.new.clients } in
-    let is : contains nat_cmp old.closed c.args.client ≡ false = sym c.contains.ensures ∙ c.if-contains.false in
-    let has : get nat_cmp old.number_of c.args.client ≡ Some c.in-Some.number = sym c.get.ensures.value ∙ (sym c.copied.ensures ∙ c.in-Some.is) in
-    unlock_unused old s c.args.client c.args.name.now shows new (record { now = refl; number_of = refl; closed = refl }) c.in-Some.number is has
-    c.end_at.ensures.changes (sym c.end_at.ensures.value ∙ c.in_default-end_at.is)
+    let has : get nat_cmp old.number_of c.args.client ≡ Some c.in-Some.number = sym c.get.ensures.value ∙ (sym c.copied.ensures ∙ c.in-Some.is) in (
+      unlocks s c.args.client c.args.name.now,
+      refl,
+      not_held old.time old.number_of old.closed old.roster c.end.new.self old.released s shows c.in-Some.number c.args.name.now c.args.client
+          (shows.are_closed c.args.client ∙ (sym c.contains.ensures ∙ c.if-contains.false)) (shows.numbers c.args.client ∙ has) (sym c.in-Ok-None.ensures.value ∙ c.in-Ok-None.field-0-is)
+          c.in-Ok-None.ensures.ok,
+    )
 
-pub returns : goal.returns
-returns c =
-    λ s shows.
+pub returns-in-Err : goal.returns-in-Err
+returns-in-Err c =
+    λ l s shows.
     let old = c.args.self.now in
-    let new : ClientTables = record { now = old.now; number_of = old.number_of; closed = old.closed; clients = c.end_at.new.clients } in
-    let is : contains nat_cmp old.closed c.args.client ≡ false = sym c.contains.ensures ∙ c.if-contains.false in
     let has : get nat_cmp old.number_of c.args.client ≡ Some c.in-Some.number = sym c.get.ensures.value ∙ (sym c.copied.ensures ∙ c.in-Some.is) in
-    unlock_used old s c.args.client c.args.name.now shows new (record { now = refl; number_of = refl; closed = refl }) c.in-Some.number is has
-    c.end_at.ensures.changes c.in-Some-end_at.used (sym c.end_at.ensures.value ∙ c.in-Some-end_at.is)
+    absurd (none_some c.args.client (sym (c.in-Err.ensures.lacks refl) ∙ old.numbered c.args.client c.in-Some.number has))

@@ -16,7 +16,7 @@ use Rattle.ra_clients.specs.Uses.{use_of, waits_for, new_use, let_in, without, l
 use Rattle.ra_clients.specs.Clients.{Limits, Clients, Turn, Event, Turns, silent, tells, told, closes, passes_time, releases, with_uses, is_full, numbered, asks_unless, locks_as, until_at, ends, unlocks_use, unlocks_as, unconnected, goes}
 use Rattle.ra_clients.specs.Clients.Event.{Lock, Unlock, Bad, Refuse, Enter, Gone, Time, Release, Give_up, Give_back}
 use Rattle.ra_clients.specs.Laws.{IsHolder}
-use Rattle.ra_clients.specs.Told.{Holding, AreGranted, IsEntry, TurnsIfAny, LetsIn, Step, AreHeld, AreDistinct}
+use Rattle.ra_clients.specs.AtNode.{Holding, AreGranted, IsEntry, TurnsIfAny, LetsIn, Step, AreHeld, AreDistinct}
 use Rattle.ra_clients.proofs.Ending.{given_is, nothing}
 use Rattle.ra_clients.proofs.Holding.{at_other, at_same, not_it}
 use Rattle.ra_clients.proofs.NamedUses.{none_some, same_name, after_push, after_end, after_other_entry}
@@ -77,7 +77,7 @@ module _ (k : ℕ) (name : List ℕ) where
   locks_held : (o : Option ℕ) (l : Limits) (unused : ℕ) (s : Clients) (c : ℕ) (other : List ℕ) (mode : Mode) (until : Option ℕ) → Held s (locks_as o l unused s c other mode until)
   locks_held (Some j) l unused s c other mode until = asks_held s s (lock_refusal other l.names (s.uses_of j)) c j other mode until refl
   locks_held None l unused s c other mode until =
-      cond_both (is_full l s) _ _ (Held s) (λ _. stays s (tells s c (Refused other Limit)) refl refl)
+      cond_both (is_full l s unused) _ _ (Held s) (λ _. stays s (tells s c (Refused other Limit)) refl refl)
       (λ _. asks_held s (numbered s c unused) (lock_refusal other l.names (s.uses_of unused)) c unused other mode until refl)
 
   -- whoever holds after a use ended has not ended it
