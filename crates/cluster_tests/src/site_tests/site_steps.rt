@@ -41,8 +41,12 @@ pub enum Task {
 /// node, whose lock is the first of `r`.
 #[derive(Clone, Copy)]
 pub enum Step {
-    /// The post sends a REQUEST with this clock from the first node to the second.
-    Sends(u64, u16, u16),
+    /// The post sends a REQUEST with this clock from one node to another.
+    Sends {
+        clock: u64,
+        from: u16,
+        to: u16,
+    },
     /// It refuses to send one with clock 1 from the first node to the second, for this reason.
     RefusesToSend(u16, u16, SendError),
     /// The post is closed.
@@ -63,7 +67,11 @@ pub enum Step {
     Pumps(u16),
     /// After the post is closed, a second site of this node takes all that is left in the inbox at this place: this
     /// many frames.
-    HasLeft(usize, u16, u64),
+    HasLeft {
+        place: usize,
+        node: u16,
+        frames: u64,
+    },
     /// After the post is closed, a second site of node 2 takes all that is left in its inbox: one REQUEST, which node 1
     /// sent with clock 1.
     HasLeftOne,
@@ -252,10 +260,14 @@ fn ended_for_a_while(all: &Cluster, ended: u64) -> u64 {
 /// Does this with the post, or asserts that it is shown.
 fn act_at_the_post<R: AllocGlobal + Wait + Abort>(rt: &R, at: At<'_>, all: &Cluster, step: Step) {
     match step {
-        Sends(clock, from, to) => sends(rt, at, all, clock, (from, to), Ok(())),
+        Sends { clock, from, to } => sends(rt, at, all, clock, (from, to), Ok(())),
         RefusesToSend(from, to, fault) => sends(rt, at, all, 1, (from, to), Err(Some(fault))),
         Pumps(number) => all.pump_number(rt, number, &all.gate),
-        HasLeft(place, number, frames) => assert_left(rt, at, all, place, number, frames),
+        HasLeft {
+            place,
+            node,
+            frames,
+        } => assert_left(rt, at, all, place, node, frames),
         HasLeftOne => assert_one_left(rt, at, all),
         ClosesPost => all.post.close(rt),
         _ => fail_at(rt, at, "this is done elsewhere"),

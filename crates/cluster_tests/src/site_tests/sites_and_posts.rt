@@ -60,11 +60,23 @@ const SEND: SiteError = SiteError::Stopped(Stop::Send);
 const COMES: &[Row] = &[Row {
     words: "a frame comes to its node",
     steps: &[
-        Sends(1, 1, 2),
+        Sends {
+            clock: 1,
+            from: 1,
+            to: 2,
+        },
         ClosesPost,
         HasLeftOne,
-        HasLeft(1, 2, 0),
-        HasLeft(0, 1, 0),
+        HasLeft {
+            place: 1,
+            node: 2,
+            frames: 0,
+        },
+        HasLeft {
+            place: 0,
+            node: 1,
+            frames: 0,
+        },
     ],
     shown: BOTH_RUN,
     ..TWO_NODES
@@ -173,7 +185,15 @@ const EACH_FRAME: &[Row] = &[
         words: "the frame for node 2 is lost",
         nodes: 3,
         gone: Gone::Inbox(1),
-        steps: &[RefusesToLock(1, 1, SEND), ClosesPost, HasLeft(1, 3, 1)],
+        steps: &[
+            RefusesToLock(1, 1, SEND),
+            ClosesPost,
+            HasLeft {
+                place: 1,
+                node: 3,
+                frames: 1,
+            },
+        ],
         shown: &[Shown::Sent(0, true), Shown::Sent(1, false), THREE_STOPPED],
         ..TWO_NODES
     },
@@ -181,7 +201,15 @@ const EACH_FRAME: &[Row] = &[
         words: "the frame for node 3 is lost",
         nodes: 3,
         gone: Gone::Inbox(2),
-        steps: &[RefusesToLock(1, 1, SEND), ClosesPost, HasLeft(1, 2, 1)],
+        steps: &[
+            RefusesToLock(1, 1, SEND),
+            ClosesPost,
+            HasLeft {
+                place: 1,
+                node: 2,
+                frames: 1,
+            },
+        ],
         shown: &[Shown::Sent(0, false), Shown::Sent(1, true), THREE_STOPPED],
         ..TWO_NODES
     },
@@ -196,8 +224,16 @@ const STRANGE: &[Row] = &[
     Row {
         words: "a strange frame comes first",
         steps: &[
-            Sends(1, 5, 2),
-            Sends(1, 1, 2),
+            Sends {
+                clock: 1,
+                from: 5,
+                to: 2,
+            },
+            Sends {
+                clock: 1,
+                from: 1,
+                to: 2,
+            },
             // Closed, so that a pump that went on would end too, with an empty inbox.
             ClosesPost,
             Pumps(2),
@@ -216,7 +252,14 @@ const STRANGE: &[Row] = &[
     },
     Row {
         words: "the post stays open",
-        steps: &[Sends(1, 5, 2), Pumps(2)],
+        steps: &[
+            Sends {
+                clock: 1,
+                from: 5,
+                to: 2,
+            },
+            Pumps(2),
+        ],
         shown: &[Shown::Books(&[
             Ended {
                 fault: Some(Stop::Refused),
@@ -232,12 +275,28 @@ const STRANGE: &[Row] = &[
     Row {
         words: "what came before it was received and answered",
         steps: &[
-            Sends(1, 1, 2),
-            Sends(1, 5, 2),
-            Sends(1, 1, 2),
+            Sends {
+                clock: 1,
+                from: 1,
+                to: 2,
+            },
+            Sends {
+                clock: 1,
+                from: 5,
+                to: 2,
+            },
+            Sends {
+                clock: 1,
+                from: 1,
+                to: 2,
+            },
             Pumps(2),
             ClosesPost,
-            HasLeft(0, 1, 1),
+            HasLeft {
+                place: 0,
+                node: 1,
+                frames: 1,
+            },
         ],
         shown: &[Shown::Books(&[
             Ended {
@@ -260,7 +319,15 @@ fn a_strange_frame_stops_all_and_ends_the_pump(rt: HostRuntime) {
 
 const AT_THE_LAST_CLOCK: &[Row] = &[Row {
     words: "a frame at the last clock",
-    steps: &[Sends(LAST_CLOCK, 1, 2), ClosesPost, Pumps(2)],
+    steps: &[
+        Sends {
+            clock: LAST_CLOCK,
+            from: 1,
+            to: 2,
+        },
+        ClosesPost,
+        Pumps(2),
+    ],
     shown: &[Shown::Books(&[
         Ended {
             fault: Some(Stop::Clock),
@@ -283,8 +350,16 @@ const STOPPED_NODE: &[Row] = &[Row {
     words: "a pump of a stopped node",
     steps: &[
         Stops(2, Stop::Gate),
-        Sends(1, 1, 2),
-        Sends(1, 1, 2),
+        Sends {
+            clock: 1,
+            from: 1,
+            to: 2,
+        },
+        Sends {
+            clock: 1,
+            from: 1,
+            to: 2,
+        },
         // The post is open, so it ended at a frame.
         Pumps(2),
     ],
@@ -314,7 +389,11 @@ const NOBODY_ASKS: &[Row] = &[
             RefusesToLock(1, 1, GATE),
             HasStepped(1),
             ClosesPost,
-            HasLeft(1, 2, 0),
+            HasLeft {
+                place: 1,
+                node: 2,
+                frames: 0,
+            },
         ],
         shown: &[Shown::Books(&[
             Ended {
@@ -336,7 +415,11 @@ const NOBODY_ASKS: &[Row] = &[
             RefusesToLock(1, 1, SEND),
             HasStepped(1),
             ClosesPost,
-            HasLeft(1, 2, 0),
+            HasLeft {
+                place: 1,
+                node: 2,
+                frames: 0,
+            },
         ],
         shown: &[Shown::Books(&[
             Ended {
@@ -382,8 +465,16 @@ const NO_FRAME: &[Row] = &[
         words: "a closed gate ends the pump at the first frame",
         most: 0,
         steps: &[
-            Sends(1, 1, 2),
-            Sends(1, 1, 2),
+            Sends {
+                clock: 1,
+                from: 1,
+                to: 2,
+            },
+            Sends {
+                clock: 1,
+                from: 1,
+                to: 2,
+            },
             // The post is open, so it ended at a frame, and it asked the gate about no other.
             Pumps(2),
             HasStepped(1),
@@ -404,13 +495,29 @@ const NO_FRAME: &[Row] = &[
         words: "of frames that come together it is asked about each, and those before the refused one are answered",
         most: 1,
         steps: &[
-            Sends(1, 1, 2),
-            Sends(1, 1, 2),
-            Sends(1, 1, 2),
+            Sends {
+                clock: 1,
+                from: 1,
+                to: 2,
+            },
+            Sends {
+                clock: 1,
+                from: 1,
+                to: 2,
+            },
+            Sends {
+                clock: 1,
+                from: 1,
+                to: 2,
+            },
             Pumps(2),
             HasStepped(2),
             ClosesPost,
-            HasLeft(0, 1, 1),
+            HasLeft {
+                place: 0,
+                node: 1,
+                frames: 1,
+            },
         ],
         shown: &[Shown::Books(&[
             Ended {

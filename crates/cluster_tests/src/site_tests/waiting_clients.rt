@@ -187,7 +187,11 @@ const IN_TURN: &[Row] = &[Row {
         RefusesToUnlock(3, 2, SiteError::Refused(BookError::NotHeld)),
         ClosesPost,
         // The inbox of node 2 is gone, so the inbox of node 3 is the second.
-        HasLeft(1, 3, 1),
+        HasLeft {
+            place: 1,
+            node: 3,
+            frames: 1,
+        },
         LetsGo,
     ],
     shown: &[

@@ -72,9 +72,14 @@ pub enum Act {
     IsRefused(u16, BookError),
     /// This frame comes, as if its sender had sent it.
     Comes(Sends),
-    /// The site of this node hands over what came after an event with this clock: its last event has the other clock,
+    /// The site of this node hands over what came after an event with the clock `after`: its last event has this clock,
     /// and this frame was lost, or none.
-    HandsOver(u16, u64, u64, Option<Sends>),
+    HandsOver {
+        node: u16,
+        after: u64,
+        clock: u64,
+        lost: Option<Sends>,
+    },
     /// A round answers this.
     Audits(Answer),
     /// A round with a new auditor answers this.
@@ -86,7 +91,11 @@ pub enum Act {
     /// This many events wait to be put into the run.
     Waits(u128),
     /// The site of this node shows this clock, and this many events.
-    HasAt(u16, u64, u64),
+    HasAt {
+        node: u16,
+        clock: u64,
+        events: u64,
+    },
     /// All nodes are stopped for this cause.
     Stops(Stop),
     /// This frame is noted as lost.
@@ -418,7 +427,11 @@ fn happens<R: AllocGlobal + Wait + Abort>(
         Comes(sends) => comes(rt, at, cluster, &frame_of(rt, sends)),
         Shows(shown) => assert_run(rt, at, auditor, shown),
         Waits(events) => assert_same(rt, at, &auditor.waiting(), &events),
-        HasAt(number, clock, events) => assert_at_site(rt, at, cluster, number, (clock, events)),
+        HasAt {
+            node: number,
+            clock,
+            events,
+        } => assert_at_site(rt, at, cluster, number, (clock, events)),
         HasLosses(lost, losing) => assert_losses(rt, at, auditor, (lost, losing)),
         Stops(stop) => cluster.stop(rt, stop),
         _ => fail_at(rt, at, "the audit can only be ended when no thread runs"),
@@ -446,7 +459,12 @@ fn does<R: AllocGlobal + Wait + Abort>(
         }
         Audits(answer) => return audits(rt, at, cluster, auditor, answer),
         AuditsAnew(answer) => return audits_anew(rt, at, cluster, answer),
-        HandsOver(number, after, clock, lost) => {
+        HandsOver {
+            node: number,
+            after,
+            clock,
+            lost,
+        } => {
             return hands_over(rt, at, cluster, number, after, (clock, lost));
         }
         Loses(sends) => return loses(rt, at, auditor, &frame_of(rt, sends)),

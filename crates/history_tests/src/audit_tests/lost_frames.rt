@@ -22,13 +22,46 @@ const HANDED_OVER: &[Row] = &[Row {
         Enters(1),
         Leaves(1),
         // The ask, the REPLY and the leave, which has clock 4; and the REQUEST.
-        HandsOver(1, 0, 4, None),
-        HandsOver(2, 0, 2, None),
+        HandsOver {
+            node: 1,
+            after: 0,
+            clock: 4,
+            lost: None,
+        },
+        HandsOver {
+            node: 2,
+            after: 0,
+            clock: 2,
+            lost: None,
+        },
         Asks(1, Mode::Exclusive),
-        HandsOver(1, 4, 5, Some(SECOND)),
-        HandsOver(2, 2, 2, None),
+        HandsOver {
+            node: 1,
+            after: 4,
+            clock: 5,
+            lost: Some(SECOND),
+        },
+        HandsOver {
+            node: 2,
+            after: 2,
+            clock: 2,
+            lost: None,
+        },
     ],
-    acts: &[HandsOver(1, 5, 5, None), HandsOver(2, 2, 2, None)],
+    acts: &[
+        HandsOver {
+            node: 1,
+            after: 5,
+            clock: 5,
+            lost: None,
+        },
+        HandsOver {
+            node: 2,
+            after: 2,
+            clock: 2,
+            lost: None,
+        },
+    ],
     ..LOSING
 }];
 

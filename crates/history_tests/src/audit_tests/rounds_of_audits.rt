@@ -405,9 +405,17 @@ const AUDITORS: &[Row] = &[
             Leaves(1),
             Audits(OtherCluster),
             Ends(OtherCluster),
-            HasAt(1, 2, 2),
+            HasAt {
+                node: 1,
+                clock: 2,
+                events: 2,
+            },
             AuditsAnew(Fine),
-            HasAt(1, 2, 0),
+            HasAt {
+                node: 1,
+                clock: 2,
+                events: 0,
+            },
         ],
         ..OF_ONE
     },
@@ -445,7 +453,11 @@ const AUDITORS: &[Row] = &[
             Enters(1),
             Leaves(1),
             AuditsAnew(OutOfTurn(1)),
-            HasAt(1, 4, 2),
+            HasAt {
+                node: 1,
+                clock: 4,
+                events: 2,
+            },
             Ends(Fine),
             Shows(Shown {
                 steps: 4,
@@ -469,17 +481,41 @@ const BOOKS: &[Row] = &[
     Row {
         words: "a watchdog sees the clock rise, and the events leave",
         acts: &[
-            HasAt(1, 0, 0),
+            HasAt {
+                node: 1,
+                clock: 0,
+                events: 0,
+            },
             Audits(Fine),
-            HasAt(1, 0, 0),
+            HasAt {
+                node: 1,
+                clock: 0,
+                events: 0,
+            },
             Enters(1),
-            HasAt(1, 1, 1),
+            HasAt {
+                node: 1,
+                clock: 1,
+                events: 1,
+            },
             Audits(Fine),
-            HasAt(1, 1, 0),
+            HasAt {
+                node: 1,
+                clock: 1,
+                events: 0,
+            },
             Leaves(1),
-            HasAt(1, 2, 1),
+            HasAt {
+                node: 1,
+                clock: 2,
+                events: 1,
+            },
             Audits(Fine),
-            HasAt(1, 2, 0),
+            HasAt {
+                node: 1,
+                clock: 2,
+                events: 0,
+            },
             Shows(Shown {
                 steps: 2,
                 requests: 1,
@@ -516,9 +552,17 @@ const BOOKS: &[Row] = &[
         words: "a lock is refused, since no clock is left for it",
         acts: &[
             Comes(LAST),
-            HasAt(2, LAST_CLOCK, 1),
+            HasAt {
+                node: 2,
+                clock: LAST_CLOCK,
+                events: 1,
+            },
             IsRefused(2, BookError::ClockFull),
-            HasAt(2, LAST_CLOCK, 1),
+            HasAt {
+                node: 2,
+                clock: LAST_CLOCK,
+                events: 1,
+            },
         ],
         ended: &[
             Ended {

@@ -149,18 +149,33 @@ const HANDED_OVER: &Row = &Row {
     words: "a loss is handed over once",
     acts: &[
         ASKS,
-        HandsOver(
-            1,
-            0,
-            1,
-            Some(Sends {
+        HandsOver {
+            node: 1,
+            after: 0,
+            clock: 1,
+            lost: Some(Sends {
                 clock: 1,
                 message: "deliver request 1 2 r X 1",
             }),
-        ),
-        HandsOver(2, 0, 0, None),
-        HandsOver(1, 1, 1, None),
-        HandsOver(2, 0, 0, None),
+        },
+        HandsOver {
+            node: 2,
+            after: 0,
+            clock: 0,
+            lost: None,
+        },
+        HandsOver {
+            node: 1,
+            after: 1,
+            clock: 1,
+            lost: None,
+        },
+        HandsOver {
+            node: 2,
+            after: 0,
+            clock: 0,
+            lost: None,
+        },
     ],
     ..LOSING
 };

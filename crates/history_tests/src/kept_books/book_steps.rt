@@ -107,9 +107,15 @@ pub enum Step<'a> {
         lost: bool,
     },
     /// Client 1 asked for `r`, exclusively, at this place and clock.
-    HasAsk(u64, u64),
+    HasAsk {
+        place: u64,
+        clock: u64,
+    },
     /// Client 1 left `r` at this place and clock.
-    HasLeave(u64, u64),
+    HasLeave {
+        place: u64,
+        clock: u64,
+    },
     /// The message arrived at this place and clock, in a frame with the clock `sent_at`.
     HasReceive {
         place: u64,
@@ -286,7 +292,7 @@ fn assert_happened(rt: &impl Abort, at: At<'_>, book: &Book, step: Step<'_>) {
             let frame = frame(clock, wire);
             assert_same(rt, at, &book.sent(place), &Some(Sent { frame, lost }));
         }
-        HasAsk(place, clock) => {
+        HasAsk { place, clock } => {
             assert_event(
                 rt,
                 at,
@@ -296,7 +302,7 @@ fn assert_happened(rt: &impl Abort, at: At<'_>, book: &Book, step: Step<'_>) {
                 BookKind::Ask { client, name, mode },
             )
         }
-        HasLeave(place, clock) => {
+        HasLeave { place, clock } => {
             assert_event(rt, at, book, place, clock, BookKind::Leave { client, name })
         }
         HasReceive {

@@ -146,14 +146,14 @@ const TAKEN: &[Row] = &[
             Takes(ASK),
             Takes(Receive(&REPLIES)),
             Takes(LEAVE),
-            HasAsk(0, 1),
+            HasAsk { place: 0, clock: 1 },
             HasReceive {
                 place: 1,
                 clock: 3,
                 sent_at: 2,
                 message: Replies,
             },
-            HasLeave(2, 4),
+            HasLeave { place: 2, clock: 4 },
             WasSent {
                 place: 0,
                 clock: 1,
