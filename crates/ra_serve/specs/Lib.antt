@@ -1,0 +1,7 @@
+pub mod Peers
+pub mod Saying
+pub mod Notes
+pub mod Opening
+pub mod Input
+pub mod Answering
+pub mod Events
