@@ -1,6 +1,7 @@
 """What cases/check does, and what the tests in test_*.py use."""
 import collections
 import concurrent.futures
+import json
 import os
 import re
 import subprocess
@@ -21,7 +22,7 @@ LIMIT = 100
 LONGEST = 60
 STREAMS = {"output": "standard output", "note": "standard error"}
 PARTS = ("begins", "has", "ends")
-KEYS = {"shows", "words", "input", "status", "row", *STREAMS, *(f"{it}_{part}" for it in STREAMS for part in PARTS)}
+KEYS = {"shows", "words", "input", "status", "row", "objects", *STREAMS, *(f"{it}_{part}" for it in STREAMS for part in PARTS)}
 # A frame in a text: its message, as in a trace, and its clock.
 FRAME = re.compile(r"<(request|reply) ([0-9]+) ([0-9]+) ([^ >]+)(?: ([A-Z]+))? ([0-9]+) at ([0-9]+)>")
 # The texts of all tables, by their names.
@@ -85,7 +86,7 @@ def differences(case, name, found):
         if not is_so:
             said.append(f"{STREAMS[name]}: expected{where}\n{shown(expected)}\nbut it is\n{shown(found)}")
 
-    if name in case or (name == "output" and not has_parts):
+    if name in case or (name == "output" and not has_parts and "objects" not in case):
         exact = text(case.get(name, ""))
         expect(found == exact, "", exact)
     if begins is not None:
@@ -99,6 +100,20 @@ def differences(case, name, found):
     return said
 
 
+def wrong_objects(case, found):
+    """Returns what is wrong with the objects that a case printed, a line each, if it expects objects."""
+    if "objects" not in case:
+        return []
+    try:
+        lines = found.decode().split("\n")
+        read = [{name: it for name, it in json.loads(line).items() if it is not None} for line in lines[:-1]]
+    except ValueError as fault:
+        return [f"standard output: {fault} in\n{shown(found)}"]
+    if (read, lines[-1]) == (case["objects"], ""):
+        return []
+    return [f"standard output: expected the objects\n{case['objects']}\nbut it is\n{shown(found)}"]
+
+
 def wrong(case):
     """Returns what is wrong with a case, as a list of texts."""
     unknown = set(case) - KEYS
@@ -110,7 +125,7 @@ def wrong(case):
         return [f"it did not end within {LIMIT} seconds"]
     expected = case.get("status", 0)
     said = [] if status == expected else [f"status: expected {expected}, but it is {status}"]
-    return said + differences(case, "output", output) + differences(case, "note", note)
+    return said + differences(case, "output", output) + wrong_objects(case, output) + differences(case, "note", note)
 
 
 class RaTest(unittest.TestCase):

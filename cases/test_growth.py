@@ -189,6 +189,7 @@ class Growth(PreloadTest):
         self.expect_growth("check", TEXTS["ONE_CLIENT_TRACE"], "valid\nrequests 1\nmessages 2\n", less=[NO_MORE])
         self.expect_growth("check --marks", MARKS, "valid\nrequests 1\ngrants 1\n", less=[NO_MORE])
         self.expect_growth("check --marks", TEXTS["LOG_TWO_WRITERS"], "valid\nrequests 2\ngrants 2\n", less=[NO_MORE])
+        self.expect_growth("check --marks --json", MARKS, '{"grants":1,"requests":1,"verdict":"valid"}\n', less=[NO_MORE])
 
     def allocations(self, words, given):
         """Returns how many allocations a command makes."""

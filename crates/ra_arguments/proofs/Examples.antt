@@ -7,6 +7,7 @@ use Rattle.ra_script.specs.declared.output_kind.OutputKind.TheVariants as prints
 use Rattle.ra_schedule.specs.declared.surveys.first_seed.Ending.TheVariants.{Stuck}
 use Rattle.ra_arguments.specs.declared.command_line.PolicyName.TheVariants.{Oldest}
 use Rattle.ra_arguments.specs.declared.command_line.input_kind.InputKind.TheVariants as reads
+use Rattle.ra_arguments.specs.declared.form.Form.TheVariants.{Words}
 use Rattle.ra_arguments.specs.declared.usage_fault.UsageCause.TheVariants as cause
 use Rattle.ra_arguments.specs.Asked.{meaning_of, refusals}
 use Rattle.ra_arguments.specs.Meanings.{answer, draw, sim, survey}
@@ -28,6 +29,7 @@ a_survey : (name : Text) → meaning_of (name ∷ codes "sim" ∷ codes "--polic
     ≡ Ok (survey (record {
       faults = Some (record { lose = 5; repeat = 0 });
       find = Some (record { ending = Stuck; format = prints.Shrunk });
+      form = Words;
       seeds = record { first = 1; last = 3 };
     }))
 unfolding clap_on_literals

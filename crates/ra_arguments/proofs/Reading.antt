@@ -14,7 +14,9 @@ use Rattle.clap.proofs.WalkLemmas.{both, first_value-rows}
 use Rattle.ra_script.specs.declared.output_kind.OutputKind.{OutputKind}
 use Rattle.ra_schedule.specs.declared.surveys.first_seed.Ending.{Ending}
 use Rattle.ra_arguments.specs.declared.command_line.PolicyName.{PolicyName}
-use Rattle.ra_arguments.specs.declared.usage_fault.UsageCause.TheVariants.{Find}
+use Rattle.ra_arguments.specs.declared.form.Form.{Form}
+use Rattle.ra_arguments.specs.declared.form.Form.TheVariants.{Json, Words}
+use Rattle.ra_arguments.specs.declared.usage_fault.UsageCause.TheVariants.{Find, Json as NoObject}
 use Rattle.ra_arguments.specs.Meanings.{numeral, run_by, sim}
 
 digits_from : (digits : List ℕ) → list_all (λ d. nat_lt (digit_value d) 10) digits ≡ true → AllDigits 10 digits
@@ -101,13 +103,22 @@ pub at_most : (a b : ℕ) → a ≤ b → nat_le a b ≡ true
 at_most a b less = le-leb _ _ less
 
 -- whether one run is asked for
-pub run_refused : (policy : PolicyName) (choices : Text) (printed : OutputKind) (ending : Option Ending) → is_some ending ≡ true → run_by policy choices printed ending ≡ Err Find
-run_refused policy choices printed (Some ending) some = refl
-run_refused policy choices printed None some = absurd (false≢true some)
+pub run_refused : (policy : PolicyName) (choices : Text) (printed : OutputKind) (ending : Option Ending) (form : Form) → is_some ending ≡ true
+    → run_by policy choices printed ending form ≡ Err Find
+run_refused policy choices printed (Some ending) form some = refl
+run_refused policy choices printed None form some = absurd (false≢true some)
 
-pub run_taken : (policy : PolicyName) (choices : Text) (printed : OutputKind) (ending : Option Ending) → is_some ending ≡ false → run_by policy choices printed ending ≡ Ok (sim policy choices printed)
-run_taken policy choices printed (Some ending) none = absurd (false≢true (sym none))
-run_taken policy choices printed None none = refl
+pub run_untold : (policy : PolicyName) (choices : Text) (printed : OutputKind) (ending : Option Ending) (form : Form) → is_some ending ≡ false → form ≡ Json
+    → run_by policy choices printed ending form ≡ Err NoObject
+run_untold policy choices printed (Some ending) form none is = absurd (false≢true (sym none))
+run_untold policy choices printed None Json none is = refl
+run_untold policy choices printed None Words none is = absurd cc
+
+pub run_taken : (policy : PolicyName) (choices : Text) (printed : OutputKind) (ending : Option Ending) (form : Form) → is_some ending ≡ false
+    → (form ≡ Json → ⊥) → run_by policy choices printed ending form ≡ Ok (sim policy choices printed)
+run_taken policy choices printed (Some ending) form none other = absurd (false≢true (sym none))
+run_taken policy choices printed None Words none other = refl
+run_taken policy choices printed None Json none other = absurd (other refl)
 
 -- the command of a parse with its values, by its name and by its values
 pub entered : {X : Type 0} (name_of : X → Text) (values_of : X → List Row) (o : Option X) (name : Text) (rows : List Row) → Some name ≡ option_map name_of o

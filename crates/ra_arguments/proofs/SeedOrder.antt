@@ -12,11 +12,13 @@ use Rattle.ra_arguments.specs.declared.command_line.PolicyName.{PolicyName}
 use Rattle.ra_arguments.specs.declared.command_line.input_kind.InputKind.{InputKind}
 use Rattle.ra_arguments.specs.declared.command_line.search.SurveyTask.{SurveyTask}
 use Rattle.ra_arguments.specs.Application.{ra_app}
+use Rattle.ra_arguments.specs.declared.form.Form.{Form}
+use Rattle.ra_arguments.specs.declared.form.Form.TheVariants.{Json, Words}
 use Rattle.ra_arguments.specs.declared.usage_fault.UsageCause.{UsageCause}
 use Rattle.ra_arguments.specs.declared.usage_fault.UsageCause.TheVariants as cause
 use Rattle.ra_arguments.specs.Asked.{AsksForTask, IsTaskFor, meaning_given}
 use Rattle.ra_arguments.specs.declared.command_line.Task.TheVariants as task
-use Rattle.ra_arguments.specs.Meanings.{Meaning, Meant, answer, answer_in, chance_of, check, check_in, cluster, cluster_by, cluster_in, cut_at_dots, draw, draw_in, ending_in, every_in, flag_in, follow, kind_in, meaning_in, numeral, part_in, plain_number_in, policy_in, printed_in, run_by, search_by, seeds_between, seeds_in, seeds_of, sim, sim_by, sim_in, survey, survey_by, with_value}
+use Rattle.ra_arguments.specs.Meanings.{Meaning, Meant, answer, answer_in, chance_of, check, check_in, cluster, cluster_by, cluster_in, cut_at_dots, draw, draw_in, ending_in, every_in, flag_in, follow, form_in, form_with, kind_in, meaning_in, numeral, part_in, plain_number_in, policy_in, printed_in, run_by, search_by, seeds_between, seeds_in, seeds_of, sim, sim_by, sim_in, survey, survey_by, with_value}
 
 InOrder : SeedRange → Type 0
 InOrder seeds = seeds.first ≤ seeds.last
@@ -36,8 +38,8 @@ IsOrdered (Ok (answer node nodes)) = ⊤
 IsOrdered (Ok (sim policy choices printed)) = ⊤
 IsOrdered (Ok (survey asked)) = InOrder asked.seeds
 IsOrdered (Ok (cluster printed)) = ⊤
-IsOrdered (Ok (check kind complete)) = ⊤
-IsOrdered (Ok (follow kind every complete)) = ⊤
+IsOrdered (Ok (check kind complete form)) = ⊤
+IsOrdered (Ok (follow kind every complete form)) = ⊤
 IsOrdered (Ok (draw kind part)) = ⊤
 
 -- what follows from each value, and holds of each cause, holds of the outcome of a value or a cause
@@ -74,9 +76,10 @@ no_survey : (why : UsageCause) → IsSurvey (Err why)
 unfolding IsSurvey
 no_survey why = tt
 
-surveyed : (policy : PolicyName) (seeds : Text) (ending : Option Ending) (printed : OutputKind) → IsSurvey (survey_by policy seeds ending printed)
-surveyed policy seeds ending printed = follows IsSurvey _ (ok_or (chance_of policy) cause.SeedsPolicy) no_survey (λ faults. follows IsSurvey _ (search_by ending printed) no_survey
-    (λ find. survey_of (λ range. record { faults = faults; find = find; seeds = range }) (λ r. refl) (seeds_in seeds) (range seeds)))
+surveyed : (policy : PolicyName) (seeds : Text) (ending : Option Ending) (printed : OutputKind) (form : Form) → IsSurvey (survey_by policy seeds ending printed form)
+surveyed policy seeds ending printed form = follows IsSurvey _ (ok_or (chance_of policy) cause.SeedsPolicy) no_survey (λ faults. follows IsSurvey _ (search_by ending printed) no_survey
+    (λ find. follows IsSurvey _ (form_with form find) no_survey
+    (λ told. survey_of (λ range. record { faults = faults; find = find; form = told; seeds = range }) (λ r. refl) (seeds_in seeds) (range seeds))))
 
 as_meaning : (o : Meant SurveyTask) → IsSurvey o → IsOrdered (with_value (λ asked. Ok (survey asked)) o)
 unfolding IsSurvey IsOrdered
@@ -87,14 +90,15 @@ nothing : (why : UsageCause) → IsOrdered (Err why)
 unfolding IsOrdered
 nothing why = tt
 
-run : (policy : PolicyName) (choices : Text) (printed : OutputKind) (ending : Option Ending) → IsOrdered (run_by policy choices printed ending)
+run : (policy : PolicyName) (choices : Text) (printed : OutputKind) (ending : Option Ending) (form : Form) → IsOrdered (run_by policy choices printed ending form)
 unfolding IsOrdered
-run policy choices printed None = tt
-run policy choices printed (Some ending) = tt
+run policy choices printed None Words = tt
+run policy choices printed None Json = tt
+run policy choices printed (Some ending) form = tt
 
 by_seeds : (rows : List Row) (policy : PolicyName) (printed : OutputKind) (seeds : Option Text) → IsOrdered (sim_by rows policy printed seeds)
-by_seeds rows policy printed (Some seeds) = as_meaning (survey_by policy seeds (ending_in rows) printed) (surveyed policy seeds (ending_in rows) printed)
-by_seeds rows policy printed None = run policy (unwrap_or (first_of (codes "choices") rows) []) printed (ending_in rows)
+by_seeds rows policy printed (Some seeds) = as_meaning (survey_by policy seeds (ending_in rows) printed (form_in rows)) (surveyed policy seeds (ending_in rows) printed (form_in rows))
+by_seeds rows policy printed None = run policy (unwrap_or (first_of (codes "choices") rows) []) printed (ending_in rows) (form_in rows)
 
 of_sim : (rows : List Row) → IsOrdered (sim_in rows)
 of_sim rows = follows IsOrdered _ (ok_or (policy_in rows) cause.Rates) nothing (λ policy.
@@ -115,21 +119,22 @@ of_cluster true false = tt
 of_cluster false true = tt
 of_cluster true true = tt
 
-a_check : (kind : InputKind) (complete : Bool) → IsOrdered (Ok (check kind complete))
+a_check : (kind : InputKind) (complete : Bool) (form : Form) → IsOrdered (Ok (check kind complete form))
 unfolding IsOrdered
-a_check kind complete = tt
+a_check kind complete form = tt
 
-a_following : (kind : InputKind) (every : ℕ) (complete : Bool) → IsOrdered (Ok (follow kind every complete))
+a_following : (kind : InputKind) (every : ℕ) (complete : Bool) (form : Form) → IsOrdered (Ok (follow kind every complete form))
 unfolding IsOrdered
-a_following kind every complete = tt
+a_following kind every complete form = tt
 
 of_check : (rows : List Row) → IsOrdered (Ok (check_in rows))
 of_check rows =
     let kind = kind_in rows in
     let every = every_in rows in
     let complete = flag_in (codes "complete") rows in
-    either (λ (meaning : Meaning). IsOrdered (Ok meaning)) (flag_in (codes "follow") rows) (follow kind every complete) (check kind complete)
-    (a_following kind every complete) (a_check kind complete)
+    let form = form_in rows in
+    either (λ (meaning : Meaning). IsOrdered (Ok meaning)) (flag_in (codes "follow") rows) (follow kind every complete form) (check kind complete form)
+    (a_following kind every complete form) (a_check kind complete form)
 
 a_drawing : (kind : InputKind) (part : Part) → IsOrdered (Ok (draw kind part))
 unfolding IsOrdered

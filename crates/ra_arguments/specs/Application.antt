@@ -79,7 +79,7 @@ sim_options policies endings =
     ∷ option (codes "seeds") takes.String
     ∷ option (codes "find") (takes.Names endings)
     ∷ flag (codes "trace") ∷ flag (codes "sends")
-    ∷ flag (codes "as-choices") ∷ flag (codes "shrink") ∷ flag (codes "state") ∷ help_option ∷ []
+    ∷ flag (codes "as-choices") ∷ flag (codes "shrink") ∷ flag (codes "state") ∷ flag (codes "json") ∷ help_option ∷ []
 
 abbrev pub cluster_options : List Rule
 cluster_options = flag (codes "trace") ∷ flag (codes "books") ∷ help_option ∷ []
@@ -88,6 +88,7 @@ abbrev pub check_options : List Rule
 check_options =
     flag (codes "marks") ∷ flag (codes "complete") ∷ flag (codes "follow")
     ∷ with_default (option (codes "every") long_numbers) (codes "0")
+    ∷ flag (codes "json")
     ∷ help_option ∷ []
 
 -- the last line of a drawing is by default the last of any input
@@ -102,7 +103,7 @@ abbrev pub node_options : List Rule
 node_options = help_option ∷ []
 
 abbrev pub settle_options : List Rule
-settle_options = flag (codes "repeats") ∷ flag (codes "trace") ∷ help_option ∷ []
+settle_options = flag (codes "repeats") ∷ flag (codes "trace") ∷ flag (codes "json") ∷ help_option ∷ []
 
 -- a command with these options; its help is one of them
 abbrev pub command : Text → List Rule → Shape

@@ -60,9 +60,9 @@ abbrev pub meaning_as : AskedTask → Option Meaning
 meaning_as (task.Answer node nodes) = Some (answer node nodes)
 meaning_as (task.Sim policy choices format) = Some (sim policy choices.now format)
 meaning_as (task.Survey asked) = Some (survey asked)
-meaning_as (task.Check complete) = Some (check reads.Trace complete)
-meaning_as (task.CheckMarks complete) = Some (check reads.Marks complete)
-meaning_as (task.Follow kind every complete) = Some (follow kind every complete)
+meaning_as (task.Check complete form) = Some (check reads.Trace complete form)
+meaning_as (task.CheckMarks complete form) = Some (check reads.Marks complete form)
+meaning_as (task.Follow kind every complete form) = Some (follow kind every complete form)
 meaning_as (task.Draw kind part) = Some (draw kind part)
 meaning_as (task.Cluster printed) = Some (cluster printed)
 meaning_as (task.Help text) = None

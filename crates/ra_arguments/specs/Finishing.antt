@@ -20,9 +20,9 @@ RunsFaithfully (task.Answer node nodes) = ⊥
 RunsFaithfully (task.Sim policy choices format) = IsFaithful policy
 RunsFaithfully (task.Survey asked) = NoneIsLost asked.faults × NoneIsRepeated asked.faults
     × (asked.seeds.first ≤ asked.seeds.last)
-RunsFaithfully (task.Check complete) = ⊥
-RunsFaithfully (task.CheckMarks complete) = ⊥
-RunsFaithfully (task.Follow kind every complete) = ⊥
+RunsFaithfully (task.Check complete form) = ⊥
+RunsFaithfully (task.CheckMarks complete form) = ⊥
+RunsFaithfully (task.Follow kind every complete form) = ⊥
 RunsFaithfully (task.Draw kind part) = ⊥
 RunsFaithfully (task.Cluster printed) = ⊥
 RunsFaithfully (task.Help text) = ⊥
@@ -32,9 +32,9 @@ abbrev pub HasNoChoices : Task → Type 0
 HasNoChoices (task.Answer node nodes) = ⊤
 HasNoChoices (task.Sim policy choices format) = choices.now ≡ []
 HasNoChoices (task.Survey asked) = ⊤
-HasNoChoices (task.Check complete) = ⊤
-HasNoChoices (task.CheckMarks complete) = ⊤
-HasNoChoices (task.Follow kind every complete) = ⊤
+HasNoChoices (task.Check complete form) = ⊤
+HasNoChoices (task.CheckMarks complete form) = ⊤
+HasNoChoices (task.Follow kind every complete form) = ⊤
 HasNoChoices (task.Draw kind part) = ⊤
 HasNoChoices (task.Cluster printed) = ⊤
 HasNoChoices (task.Help text) = ⊤

@@ -21,6 +21,8 @@ use Rattle.ra_arguments.specs.declared.command_line.input_kind.InputKind.{InputK
 use Rattle.ra_arguments.specs.declared.command_line.input_kind.InputKind.TheVariants as reads
 use Rattle.ra_arguments.specs.declared.command_line.search.Search.{Search}
 use Rattle.ra_arguments.specs.declared.command_line.search.SurveyTask.{SurveyTask}
+use Rattle.ra_arguments.specs.declared.form.Form.{Form}
+use Rattle.ra_arguments.specs.declared.form.Form.TheVariants.{Json, Words}
 use Rattle.ra_arguments.specs.declared.usage_fault.UsageCause.{UsageCause}
 use Rattle.ra_arguments.specs.declared.usage_fault.UsageCause.TheVariants as cause
 
@@ -32,10 +34,10 @@ pub data Meaning : Type 0 where
   sim : PolicyName → Text → OutputKind → Meaning
   survey : SurveyTask → Meaning
   cluster : ClusterOutput → Meaning
-  -- what is read, and whether its run has to be complete
-  check : InputKind → (complete : Bool) → Meaning
+  -- what is read, whether its run has to be complete, and in which form the verdict is printed
+  check : InputKind → (complete : Bool) → Form → Meaning
   -- the same of a text that may be longer; after how many lines each time it is told what they come to, or 0 for never
-  follow : InputKind → (every : ℕ) → (complete : Bool) → Meaning
+  follow : InputKind → (every : ℕ) → (complete : Bool) → Form → Meaning
   draw : InputKind → Part → Meaning
 
 -- a meaning, or the cause why it is missing
@@ -64,6 +66,10 @@ plain_number_in bits name rows = option_and_then (numeral bits) (first_of name r
 
 abbrev pub flag_in : Text → List Row → Bool
 flag_in name rows = option_map_or (λ text. bytes_eq text (codes "true")) (first_of name rows) false
+
+-- in which form results are printed
+abbrev pub form_in : List Row → Form
+form_in rows = if flag_in (codes "json") rows then Json else Words
 
 -- ---- `answer`
 
@@ -183,25 +189,35 @@ search_by (Some Finished) prints.Shrunk = Err cause.ShrinkFinished
 search_by (Some Stuck) prints.Shrunk = Ok (Some (record { ending = Stuck; format = prints.Shrunk }))
 search_by (Some ending) prints.State = Err cause.State
 
--- a survey under a policy of chance, of what is looked for, and with these seeds
-abbrev pub survey_by : PolicyName → Text → Option Ending → OutputKind → Meant SurveyTask
-survey_by policy seeds ending printed = with_value (λ faults. with_value (λ find. with_value (λ range. Ok (record {
-  faults = faults;
-  find = find;
-  seeds = range;
-})) (seeds_in seeds)) (search_by ending printed)) (ok_or (chance_of policy) cause.SeedsPolicy)
+-- a run that is found is not printed as an object
+abbrev pub form_with : Form → Option Search → Meant Form
+form_with Words find = Ok Words
+form_with Json None = Ok Json
+form_with Json (Some search) = Err cause.Json
 
--- an end is looked for only under many seeds
-abbrev pub run_by : PolicyName → Text → OutputKind → Option Ending → Meant Meaning
-run_by policy choices printed None = Ok (sim policy choices printed)
-run_by policy choices printed (Some ending) = Err cause.Find
+-- a survey under a policy of chance, of what is looked for, in a form, and with these seeds
+abbrev pub survey_by : PolicyName → Text → Option Ending → OutputKind → Form → Meant SurveyTask
+survey_by policy seeds ending printed form =
+    with_value (λ faults. with_value (λ find. with_value (λ told. with_value (λ range. Ok (record {
+      faults = faults;
+      find = find;
+      form = told;
+      seeds = range;
+    })) (seeds_in seeds)) (form_with form find)) (search_by ending printed))
+    (ok_or (chance_of policy) cause.SeedsPolicy)
+
+-- an end is looked for only under many seeds, and only a survey of these is printed as an object
+abbrev pub run_by : PolicyName → Text → OutputKind → Option Ending → Form → Meant Meaning
+run_by policy choices printed (Some ending) form = Err cause.Find
+run_by policy choices printed None Words = Ok (sim policy choices printed)
+run_by policy choices printed None Json = Err cause.Json
 
 -- with `--seeds` a survey of many runs, and otherwise one run
 abbrev pub sim_by : List Row → PolicyName → OutputKind → Option Text → Meant Meaning
 sim_by rows policy printed (Some seeds) = with_value (λ asked. Ok (survey asked))
-    (survey_by policy seeds (ending_in rows) printed)
+    (survey_by policy seeds (ending_in rows) printed (form_in rows))
 sim_by rows policy printed None =
-    run_by policy (unwrap_or (first_of (codes "choices") rows) []) printed (ending_in rows)
+    run_by policy (unwrap_or (first_of (codes "choices") rows) []) printed (ending_in rows) (form_in rows)
 
 abbrev pub sim_in : List Row → Meant Meaning
 sim_in rows = with_value (λ policy. with_value (λ printed. sim_by rows policy printed (first_of (codes "seeds") rows))
@@ -229,8 +245,8 @@ every_in rows = unwrap_or (number_in 64 (codes "every") rows) 0
 -- a text that is followed may be longer
 abbrev pub check_in : List Row → Meaning
 check_in rows = if flag_in (codes "follow") rows
-    then follow (kind_in rows) (every_in rows) (flag_in (codes "complete") rows)
-    else check (kind_in rows) (flag_in (codes "complete") rows)
+    then follow (kind_in rows) (every_in rows) (flag_in (codes "complete") rows) (form_in rows)
+    else check (kind_in rows) (flag_in (codes "complete") rows) (form_in rows)
 
 -- the lines are counted from 1, and the first is at most the last
 abbrev pub part_between : (from to : ℕ) → Option Part

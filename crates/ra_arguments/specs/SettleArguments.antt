@@ -1,10 +1,11 @@
 -- Which arguments ask `ra` to settle books. They are known without the parser, so that memory can't run out for them.
-use Rattle.std.specs.Prelude.{◌≡◌, ◌++◌, ◌&&◌, ◌||◌, Bool, true, false, not, List, [], ◌∷◌, Option, Some, None, codes, if◌then◌else◌}
+use Rattle.std.specs.Prelude.{◌≡◌, ◌++◌, ◌&&◌, ◌||◌, Bool, true, false, not, List, [], ◌∷◌, Option, Some, None, option_map, codes, if◌then◌else◌}
 use Rattle.std.specs.Str.{bytes_eq}
 use Rattle.clap.specs.Words.{Rule, Text}
 use Rattle.clap.specs.declared.builder.action.ArgAction.{ArgAction}
 use Rattle.clap.specs.declared.builder.action.ArgAction.TheVariants as action
-use Rattle.ra_arguments.specs.declared.settle_arguments.SettleOutput.TheVariants.{Lines, Trace}
+use Rattle.ra_arguments.specs.declared.settle_arguments.SettleOutput.TheVariants.{Lines, Objects, Trace}
+use Rattle.ra_arguments.specs.declared.settle_arguments.SettleOutput.{SettleOutput}
 use Rattle.ra_arguments.specs.declared.settle_arguments.SettleTask.{SettleTask}
 use Rattle.ra_arguments.specs.Application.{settle_options}
 
@@ -37,12 +38,20 @@ are_flags rules (argument ∷ arguments) =
 
 -- ---- `settle`
 
--- how books are settled if these arguments follow `settle`: they are its options, in any order, each at most once
+-- what is printed, if at most one thing is to be in place of the lines
+abbrev pub output_by : (traces objects : Bool) → Option SettleOutput
+output_by false false = Some Lines
+output_by true false = Some Trace
+output_by false true = Some Objects
+output_by true true = None
+
+-- how books are settled if these arguments follow `settle`: they are its options, in any order, each at most once, and
+-- at most one says what is printed
 abbrev pub settling_by : (options : List Text) → Option SettleTask
-settling_by options = if are_flags settle_options options then Some (record {
+settling_by options = if are_flags settle_options options then option_map (λ printed. record {
   repeats = has_text (codes "--repeats") options;
-  printed = if has_text (codes "--trace") options then Trace else Lines;
-}) else None
+  printed = printed;
+}) (output_by (has_text (codes "--trace") options) (has_text (codes "--json") options)) else None
 
 -- how the arguments ask to settle books, if they are the program's name, `settle` and its options
 abbrev pub settling_of : (arguments : List Text) → Option SettleTask

@@ -13,7 +13,7 @@ ghost use Rattle.clap.specs.Words.{HasKind, found_of, kind_of, rows_of, subcomma
 ghost use Rattle.ra_arguments.specs.Arguments.{IsHelpArgument};
 ghost use Rattle.ra_arguments.specs.Asked.{AsksForTask, IsArgumentsFault, IsRefusedBy, IsTaken, is_help, meaning_given, refusals};
 ghost use Rattle.ra_arguments.specs.Helping.{IsShown, ShowsHelp, helps_of};
-ghost use Rattle.ra_arguments.specs.Meanings.{answer_in, chance_of as chance_by, cluster_in, ending_in, meaning_in, policy_in, policy_named as policy_by_name, printed_by, printed_in, rates_in, repeats_in, search_by, seeds_in, sim_in, survey_by, with_sends as printed_with_sends};
+ghost use Rattle.ra_arguments.specs.Meanings.{answer_in, chance_of as chance_by, cluster_in, ending_in, form_with, meaning_in, policy_in, policy_named as policy_by_name, printed_by, printed_in, rates_in, repeats_in, search_by, seeds_in, sim_in, survey_by, with_sends as printed_with_sends};
 
 use crate::cluster_output::ClusterOutput;
 use crate::command_line::command_rows::matches_of;
@@ -24,7 +24,8 @@ use crate::command_line::helps::{
 use crate::command_line::input_kind::InputKind;
 use crate::command_line::option_values::{has_flag, long_number, plain_number, short_number};
 use crate::command_line::search::{Search, SurveyTask};
-use crate::command_line::text_tasks::{check_task, draw_task};
+use crate::command_line::text_tasks::{check_task, draw_task, form_of};
+use crate::form::Form;
 use crate::usage_fault::{ArgumentsFault, UsageCause, UsageFault};
 use clap::error::ErrorKind;
 use clap::{ArgMatches, Error as ParseError};
@@ -61,20 +62,23 @@ pub enum Task<'a> {
     },
     /// The command `sim` with many seeds.
     Survey(SurveyTask),
-    /// The command `check`, and whether the run has to be complete.
+    /// The command `check`, whether the run has to be complete, and in which form the verdict is printed.
     Check {
         complete: bool,
+        form: Form,
     },
-    /// The command `check --marks`, and whether the run has to be complete.
+    /// The command `check --marks`, the same.
     CheckMarks {
         complete: bool,
+        form: Form,
     },
     /// The command `check --follow`, with what it reads, after how many lines each time it tells what they come to (0:
-    /// never), and whether the run has to be complete.
+    /// never), and the same.
     Follow {
         kind: InputKind,
         every: u64,
         complete: bool,
+        form: Form,
     },
     /// The command `draw`, with what it reads, and the part that is drawn.
     Draw {
@@ -291,6 +295,20 @@ fn search_of(ending: Option<Ending>, format: OutputKind) -> Result<Option<Search
     }
 }
 
+/// Returns in which form a survey is printed in which this is looked for, if anything is. It does not allocate.
+///
+/// # Errors
+///
+/// `Json`: something is looked for, and objects are asked for.
+fn survey_form(form: Form, find: Option<Search>) -> Result<Form, UsageCause>
+    ensures { result ≡ form_with form find }
+{
+    match (form, find) {
+        (Form::Json, Some(_)) => Err(UsageCause::Json),
+        _ => Ok(form),
+    }
+}
+
 /// Returns what the command `sim` asks of many seeds: under a policy of chance and, unless an end is looked for, in no
 /// format of one run.
 ///
@@ -298,23 +316,27 @@ fn search_of(ending: Option<Ending>, format: OutputKind) -> Result<Option<Search
 ///
 /// 1. `SeedsPolicy`: the policy draws nothing.
 /// 2. Those of `search_of`.
-/// 3. Those of `seeds_of`.
+/// 3. Those of `survey_form`.
+/// 4. Those of `seeds_of`.
 fn survey_task(
     policy: PolicyName,
     seeds: &str,
     ending: Option<Ending>,
     format: OutputKind,
+    form: Form,
 ) -> Result<SurveyTask, UsageCause>
-    ensures { result ≡ survey_by policy seeds.now ending format }
+    ensures { result ≡ survey_by policy seeds.now ending format form }
 {
     let Some(faults) = chance_of(policy) else {
         return Err(UsageCause::SeedsPolicy);
     };
     let find = search_of(ending, format)?;
+    let form = survey_form(form, find)?;
     let seeds = seeds_of(seeds)?;
     Ok(SurveyTask {
         faults,
         find,
+        form,
         seeds,
     })
 }
@@ -327,6 +349,7 @@ fn survey_task(
 /// 2. Those of `format_of`.
 /// 3. Those of `survey_task`, with `--seeds`.
 /// 4. `Find`: an end is looked for without `--seeds`.
+/// 5. `Json`: an object is asked for without `--seeds`.
 fn sim_task<'a>(sim: &ArgMatches<'a>) -> Result<Task<'a>, UsageCause>
     ensures { IsTaken (sim_in (rows_of (found_of sim.now))) result }
 {
@@ -335,12 +358,16 @@ fn sim_task<'a>(sim: &ArgMatches<'a>) -> Result<Task<'a>, UsageCause>
     };
     let format = format_of(&policy, sim)?;
     let ending = ending_of(sim);
+    let form = form_of(sim);
     if let Some(seeds) = sim.get_str("seeds") {
-        let survey = survey_task(policy, seeds, ending, format)?;
+        let survey = survey_task(policy, seeds, ending, format, form)?;
         return Ok(Task::Survey(survey));
     }
     if ending.is_some() {
         return Err(UsageCause::Find);
+    }
+    if let Form::Json = form {
+        return Err(UsageCause::Json);
     }
     // It has a default, so the parser gives it a text.
     let choices = sim.get_str("choices").unwrap_or("");

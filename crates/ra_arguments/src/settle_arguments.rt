@@ -14,6 +14,8 @@ pub enum SettleOutput {
     Lines,
     /// Its trace.
     Trace,
+    /// The objects of its marks and totals.
+    Objects,
 }
 
 /// How books are settled.
@@ -51,21 +53,30 @@ fn are_flags(rows: &[OptionRow<'_>], arguments: &[String]) -> bool
     true
 }
 
+/// Returns what is printed, or `None` if two things are to be. It does not allocate.
+fn output_by(traces: bool, tells_objects: bool) -> Option<SettleOutput>
+    ensures { result ≡ spec.output_by traces tells_objects }
+{
+    match (traces, tells_objects) {
+        (false, false) => Some(SettleOutput::Lines),
+        (true, false) => Some(SettleOutput::Trace),
+        (false, true) => Some(SettleOutput::Objects),
+        (true, true) => None,
+    }
+}
+
 /// Returns how books are settled if these arguments follow `settle`, or `None` if they are not its options, each at
-/// most once. It does not allocate.
+/// most once, and not both `--trace` and `--json`. It does not allocate.
 fn settling_by(options: &[String]) -> Option<SettleTask>
     ensures { result ≡ spec.settling_by (map string_bytes options.now) }
 {
     if !are_flags(options_of(CommandKind::Settle), options) {
         return None;
     }
+    let printed = output_by(has_text(options, "--trace"), has_text(options, "--json"))?;
     Some(SettleTask {
         repeats: has_text(options, "--repeats"),
-        printed: if has_text(options, "--trace") {
-            SettleOutput::Trace
-        } else {
-            SettleOutput::Lines
-        },
+        printed,
     })
 }
 

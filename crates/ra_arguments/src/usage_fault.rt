@@ -32,6 +32,8 @@ pub enum UsageCause {
     Seeds,
     /// The first seed of `--seeds` is above the last.
     SeedsOrder,
+    /// `--json` without `--seeds`, or with `--find`.
+    Json,
     /// `--from` is 0 or above `--to`.
     Part,
     /// `--books` and `--trace`.

@@ -133,9 +133,9 @@ never_left laws (task.Sim name choices format) input new before after orderly fa
 never_left laws (task.Survey survey) input new before after orderly faithful left =
     let (output, is, consumes, appends) = left.0 in
     false≢true (told laws survey input orderly faithful.0 faithful.1 faithful.2 survey.find output false is)
-never_left laws (task.Check complete) input new before after orderly faithful left = faithful
-never_left laws (task.CheckMarks complete) input new before after orderly faithful left = faithful
-never_left laws (task.Follow kind every complete) input new before after orderly faithful left = faithful
+never_left laws (task.Check complete form) input new before after orderly faithful left = faithful
+never_left laws (task.CheckMarks complete form) input new before after orderly faithful left = faithful
+never_left laws (task.Follow kind every complete form) input new before after orderly faithful left = faithful
 never_left laws (task.Draw kind part) input new before after orderly faithful left = faithful
 never_left laws (task.Cluster printed) input new before after orderly faithful left = faithful
 never_left laws (task.Help text) input new before after orderly faithful left = faithful
@@ -149,9 +149,9 @@ always_driven laws (task.Sim name choices format) old new cause faithful (inr (f
     let same : fault ≡ Drive cause = cc in
     laws.never_refused format policy input cause chosen.unrepeated chosen.itself (subst (RefusesAs format policy input) same refuses)
 always_driven laws (task.Survey survey) old new cause faithful (fault, is, failed, refuses) = cc
-always_driven laws (task.Check complete) old new cause faithful refuses = faithful
-always_driven laws (task.CheckMarks complete) old new cause faithful refuses = faithful
-always_driven laws (task.Follow kind every complete) old new cause faithful refuses = faithful
+always_driven laws (task.Check complete form) old new cause faithful refuses = faithful
+always_driven laws (task.CheckMarks complete form) old new cause faithful refuses = faithful
+always_driven laws (task.Follow kind every complete form) old new cause faithful refuses = faithful
 always_driven laws (task.Draw kind part) old new cause faithful refuses = faithful
 always_driven laws (task.Cluster printed) old new cause faithful refuses = faithful
 always_driven laws (task.Help text) old new cause faithful refuses = faithful
@@ -194,9 +194,9 @@ refused_for_memory laws (task.Survey survey) input new why orderly faithful plai
     of_survey (run.Cluster wrong) is h = absurd h
     of_survey run.Choice is h = absurd (none_wordless laws survey survey.find input faithful.0 faithful.1 h)
     of_survey run.Memory is h = refl
-refused_for_memory laws (task.Check complete) input new why orderly faithful plain reader writer cause = absurd faithful
-refused_for_memory laws (task.CheckMarks complete) input new why orderly faithful plain reader writer cause = absurd faithful
-refused_for_memory laws (task.Follow kind every complete) input new why orderly faithful plain reader writer cause = absurd faithful
+refused_for_memory laws (task.Check complete form) input new why orderly faithful plain reader writer cause = absurd faithful
+refused_for_memory laws (task.CheckMarks complete form) input new why orderly faithful plain reader writer cause = absurd faithful
+refused_for_memory laws (task.Follow kind every complete form) input new why orderly faithful plain reader writer cause = absurd faithful
 refused_for_memory laws (task.Draw kind part) input new why orderly faithful plain reader writer cause = absurd faithful
 refused_for_memory laws (task.Cluster printed) input new why orderly faithful plain reader writer cause = absurd faithful
 refused_for_memory laws (task.Help text) input new why orderly faithful plain reader writer cause = absurd faithful

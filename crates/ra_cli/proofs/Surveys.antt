@@ -14,13 +14,13 @@ use Rattle.ra_cli.specs.declared.error.RunScriptError.{RunScriptError}
 use Rattle.ra_cli.specs.declared.error.RunScriptError.TheVariants as fault
 use Rattle.ra_arguments.specs.declared.command_line.search.SurveyTask.{SurveyTask}
 use Rattle.ra_cli.specs.ClusterRun.{RefusesRun, of_choices}
-use Rattle.ra_cli.specs.Surveyed.{AllFinished, FoundHasNoWords, IsSurveyed, IsTold, RefusesSurvey, SurveysBy, survey_text}
+use Rattle.ra_cli.specs.Surveyed.{AllFinished, FoundHasNoWords, IsSurveyed, IsTold, RefusesSurvey, SurveysBy, survey_in}
 use Rattle.ra_cli.proofs.ClusterRuns.{of_known}
 
 -- the lines of a survey of the script of a text
 pub surveyed : (asked : SurveyTask) (text : List ℕ) (script : ScriptState) (survey : Survey) (finished : Bool)
     → script_of text ≡ Ok script → IsSurvey script asked.faults turn_limit asked.seeds.first asked.seeds.last survey → IsTrue finished ↔ AllFinished survey
-    → IsSurveyed asked text (survey_text survey) finished
+    → IsSurveyed asked text (survey_in asked.form survey) finished
 surveyed asked text script survey finished is surveys all = record {
   script = script;
   script_is = is;

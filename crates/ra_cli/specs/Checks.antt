@@ -1,16 +1,14 @@
 -- What `ra check` does.
-use Rattle.std.specs.Prelude.{◌≡◌, ◌≢◌, ◌⊎◌, ℕ, List, ◌++◌, Bool, true, false, Option, Result, IfSome, IsOkAnd, codes, decimal}
+use Rattle.std.specs.Prelude.{◌≡◌, ◌≢◌, ◌⊎◌, ℕ, List, ◌++◌, Bool, true, false, if◌then◌else◌, Option, Some, None, Result, IfSome, IsOkAnd, codes, decimal}
 use Rattle.std.specs.Io.KnownBytes.{Consumes, Appends}
 use Rattle.ra_text.specs.Lines.{field, total_line}
+use Rattle.ra_arguments.specs.declared.form.Form.{Form}
+use Rattle.ra_arguments.specs.declared.form.Form.TheVariants.{Json, Words}
 use Rattle.ra_arguments.specs.declared.command_line.input_kind.InputKind.{InputKind}
 use Rattle.ra_arguments.specs.declared.command_line.input_kind.InputKind.TheVariants as reads
-use Rattle.ra_trace.specs.declared.checker.verdict.Cause.{Cause}
-use Rattle.ra_trace.specs.declared.checker.verdict.Cause.TheVariants.{Line, Refused, NotUnderWay, Sends, Marks, Table}
 use Rattle.ra_trace.specs.declared.checker.verdict.Verdict.{Verdict}
 use Rattle.ra_trace.specs.declared.checker.verdict.Verdict.TheVariants.{Valid, Invalid}
 use Rattle.ra_trace.specs.Verdict.{IsVerdict}
-use Rattle.ra_trace.specs.declared.mark_log.marks_verdict.MarkCause.{MarkCause}
-use Rattle.ra_trace.specs.declared.mark_log.marks_verdict.MarkCause.TheVariants as mark
 use Rattle.ra_trace.specs.declared.mark_log.marks_verdict.MarksVerdict.{MarksVerdict}
 use Rattle.ra_trace.specs.declared.mark_log.marks_verdict.MarksVerdict.TheVariants as marks
 use Rattle.ra_trace.specs.declared.checker.trace_watcher.TraceSoFar.{TraceSoFar}
@@ -20,23 +18,28 @@ use Rattle.ra_trace.specs.Following.{TellsMarks, TellsTrace}
 use Rattle.ra_trace.specs.Marks.{IsMarksVerdict}
 use Rattle.ra_trace.specs.Reading.{Judges as ShowsVerdict, PassesLimit, ReadsOn, StopsAfter}
 use Rattle.ra_trace.specs.MarksReading.{JudgesMarks, PassesMarksLimit, ReadsOnMarks, StopsAfterMarks}
+use Rattle.ra_json.specs.Verdicts.{cause_word, mark_cause_word, marks_verdict_line, verdict_line}
 use Rattle.ra_trace.specs.declared.error.TraceError.{TraceError}
 use Rattle.ra_trace.specs.declared.error.TraceError.TheVariants as fault
-
--- the word for the cause of an invalid trace
-abbrev pub cause_word : Cause → List ℕ
-cause_word Line = codes "Line"
-cause_word Refused = codes "Refused"
-cause_word NotUnderWay = codes "NotUnderWay"
-cause_word Sends = codes "Sends"
-cause_word Marks = codes "Marks"
-cause_word Table = codes "Table"
 
 -- the lines of a verdict
 abbrev pub verdict_text : Verdict → List ℕ
 verdict_text (Valid requests messages) =
     codes "valid\n" ++ total_line (codes "requests") requests ++ total_line (codes "messages") messages
 verdict_text (Invalid line cause) = codes "invalid" ++ field (decimal line) ++ field (cause_word cause) ++ codes "\n"
+
+-- whether a text is complete, if it has to be
+abbrev pub if_demanded : (demanded passes : Bool) → Option Bool
+if_demanded demanded passes = if demanded then Some passes else None
+
+-- What is printed of a verdict in this form: its lines, or the line of its object. The object also says whether the
+-- text is complete, if that is demanded, by whether it passes.
+abbrev pub verdict_as : Form → (complete : Option Bool) → Verdict → List ℕ
+verdict_as Words complete verdict = verdict_text verdict
+verdict_as Json complete verdict = verdict_line complete verdict
+
+abbrev pub verdict_in : Form → (demanded passes : Bool) → Verdict → List ℕ
+verdict_in form demanded passes = verdict_as form (if_demanded demanded passes)
 
 -- whether a verdict says that the text is a trace
 abbrev pub is_valid : Verdict → Bool
@@ -49,30 +52,20 @@ is_valid (Invalid line cause) = false
 -- read to its end if it is valid, and otherwise no further than shows the verdict, which `Shows` says. If it is not
 -- known, such a text still exists.
 abbrev pub Judges : {V : Type 0} → (IsVerdictOn : List ℕ → V → Type 0) → (Meets : List ℕ → V → Bool → Type 0)
-    → (Shows : Option (List ℕ) → Option (List ℕ) → V → Type 0) → (is_valid : V → Bool) → (lines_of : V → List ℕ)
+    → (Shows : Option (List ℕ) → Option (List ℕ) → V → Type 0) → (is_valid : V → Bool) → (lines_of : Bool → V → List ℕ)
     → (old new before after : Option (List ℕ)) → Bool → Type 0
 Judges {V} IsVerdictOn Meets Shows is_valid lines_of old new before after passes =
     IfSome old (λ input. (verdict : V) × IsVerdictOn input verdict × Meets input verdict passes
     × Shows old new verdict × (is_valid verdict ≡ true → Consumes old new input)
-    × Appends before after (lines_of verdict))
+    × Appends before after (lines_of passes verdict))
     × ((input : List ℕ) × (verdict : V) × IsVerdictOn input verdict × Meets input verdict passes
-    × Appends before after (lines_of verdict))
+    × Appends before after (lines_of passes verdict))
 
--- the outcome of a check of a trace, which may have this many bytes, and may have to be complete
-abbrev pub Checks : (most : ℕ) → (complete : Bool) → (old new before after : Option (List ℕ)) → Bool → Type 0
-Checks most complete = Judges IsVerdict (MeetsTrace complete) (ShowsVerdict most) is_valid verdict_text
+-- the outcome of a check of a trace, which may have this many bytes, and may have to be complete, in this form
+abbrev pub Checks : (most : ℕ) → (complete : Bool) → Form → (old new before after : Option (List ℕ)) → Bool → Type 0
+Checks most complete form = Judges IsVerdict (MeetsTrace complete) (ShowsVerdict most) is_valid (verdict_in form complete)
 
 -- ---- Mark logs
-
--- the word for the cause of an invalid mark log
-abbrev pub mark_cause_word : MarkCause → List ℕ
-mark_cause_word mark.Line = codes "Line"
-mark_cause_word mark.NodeBusy = codes "NodeBusy"
-mark_cause_word mark.NotAbove = codes "NotAbove"
-mark_cause_word mark.NotWaiting = codes "NotWaiting"
-mark_cause_word mark.Held = codes "Held"
-mark_cause_word mark.Earlier = codes "Earlier"
-mark_cause_word mark.NotHeld = codes "NotHeld"
 
 -- the lines of a verdict on a mark log
 abbrev pub marks_verdict_text : MarksVerdict → List ℕ
@@ -81,14 +74,24 @@ marks_verdict_text (marks.Valid requests grants) =
 marks_verdict_text (marks.Invalid line cause) =
     codes "invalid" ++ field (decimal line) ++ field (mark_cause_word cause) ++ codes "\n"
 
+-- what is printed of it in this form, likewise
+abbrev pub marks_verdict_as : Form → (complete : Option Bool) → MarksVerdict → List ℕ
+marks_verdict_as Words complete verdict = marks_verdict_text verdict
+marks_verdict_as Json complete verdict = marks_verdict_line complete verdict
+
+abbrev pub marks_verdict_in : Form → (demanded passes : Bool) → MarksVerdict → List ℕ
+marks_verdict_in form demanded passes = marks_verdict_as form (if_demanded demanded passes)
+
 -- whether a verdict says that the marks are a run of the lock table
 abbrev pub is_run : MarksVerdict → Bool
 is_run (marks.Valid requests grants) = true
 is_run (marks.Invalid line cause) = false
 
 -- the outcome of a check of a mark log, likewise
-abbrev pub ChecksMarks : (most : ℕ) → (complete : Bool) → (old new before after : Option (List ℕ)) → Bool → Type 0
-ChecksMarks most complete = Judges IsMarksVerdict (MeetsLog complete) (JudgesMarks most) is_run marks_verdict_text
+abbrev pub ChecksMarks : (most : ℕ) → (complete : Bool) → Form → (old new before after : Option (List ℕ)) → Bool
+    → Type 0
+ChecksMarks most complete form = Judges IsMarksVerdict (MeetsLog complete) (JudgesMarks most) is_run
+    (marks_verdict_in form complete)
 
 -- ---- Refusals
 
@@ -114,8 +117,8 @@ RefusesCheckOfMarks most old new fault.Memory =
 abbrev pub most_followed : ℕ
 most_followed = 9223372036854775808
 
-abbrev pub ChecksKind : InputKind → (most : ℕ) → (complete : Bool) → (old new before after : Option (List ℕ)) → Bool
-    → Type 0
+abbrev pub ChecksKind : InputKind → (most : ℕ) → (complete : Bool) → Form → (old new before after : Option (List ℕ))
+    → Bool → Type 0
 ChecksKind reads.Trace = Checks
 ChecksKind reads.Marks = ChecksMarks
 
@@ -123,11 +126,13 @@ abbrev pub RefusesCheckOfKind : InputKind → (most : ℕ) → (old new : Option
 RefusesCheckOfKind reads.Trace = RefusesCheck
 RefusesCheckOfKind reads.Marks = RefusesCheckOfMarks
 
--- the text tells the verdict on the input
-abbrev pub IsVerdictText : InputKind → (input text : List ℕ) → Type 0
-IsVerdictText reads.Trace input text = (verdict : Verdict) × IsVerdict input verdict × (text ≡ verdict_text verdict)
-IsVerdictText reads.Marks input text =
-    (verdict : MarksVerdict) × IsMarksVerdict input verdict × (text ≡ marks_verdict_text verdict)
+-- the text tells in this form the verdict on the input, which may have to be complete
+abbrev pub IsVerdictText : InputKind → (complete : Bool) → Form → (input text : List ℕ) → Type 0
+IsVerdictText reads.Trace complete form input text = (verdict : Verdict) × (passes : Bool) × IsVerdict input verdict
+    × MeetsTrace complete input verdict passes × (text ≡ verdict_in form complete passes verdict)
+IsVerdictText reads.Marks complete form input text =
+    (verdict : MarksVerdict) × (passes : Bool) × IsMarksVerdict input verdict
+    × MeetsLog complete input verdict passes × (text ≡ marks_verdict_in form complete passes verdict)
 
 -- ---- Who is told
 

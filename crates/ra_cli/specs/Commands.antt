@@ -44,7 +44,7 @@ ReadsNothing (Unknown fault) = ⊤
 abbrev pub TellsObserver : Command → (old : Option (List ℕ))
     → (trace_before trace_after : Option (List TraceSoFar)) → (marks_before marks_after : Option (List MarksSoFar))
     → (status : ℕ) → Type 0
-TellsObserver (Task (task.Follow kind every complete)) old trace_before trace_after marks_before marks_after status =
+TellsObserver (Task (task.Follow kind every complete form)) old trace_before trace_after marks_before marks_after status =
     TellsOfKind kind every old trace_before trace_after marks_before marks_after status
 TellsObserver asked old trace_before trace_after marks_before marks_after status = ⊤
 

@@ -14,16 +14,19 @@ use Rattle.ra_text.specs.declared.error.ReadFault.TheVariants as read
 use Rattle.ra_cli.specs.declared.error.SettleFault.{SettleFault}
 use Rattle.ra_cli.specs.declared.error.SettleFault.TheVariants as fault
 use Rattle.ra_arguments.specs.declared.settle_arguments.SettleOutput.{SettleOutput}
-use Rattle.ra_arguments.specs.declared.settle_arguments.SettleOutput.TheVariants.{Lines, Trace}
+use Rattle.ra_arguments.specs.declared.settle_arguments.SettleOutput.TheVariants.{Lines, Objects, Trace}
 use Rattle.ra_arguments.specs.declared.settle_arguments.SettleTask.{SettleTask}
+use Rattle.ra_json.specs.Settled.{report_lines}
+use Rattle.ra_json.specs.Verdicts.{invalid_line}
 use Rattle.ra_cli.specs.InputOutput.{StopsBefore}
 use Rattle.ra_cli.specs.Refusals.{refused_line, settle_word}
 
--- what is printed of the settled run: the lines of its report, or its trace
+-- what is printed of the settled run: the lines of its report, its trace, or the objects of its marks and totals
 abbrev pub Prints : SettleOutput → SettledText → List ℕ → Type 0
 Prints Lines text output = output ≡ report_text text.settled.report
 Prints Trace text output = (moves : List Move) × (map (λ move. move.step) moves ≡ text.settled.steps.items)
     × IsTrace text.nodes text.start moves output
+Prints Objects text output = output ≡ report_lines text.settled.report
 
 -- the input is a text of books that settle, and this is printed of their run
 abbrev pub Settles : SettleTask → (input output : List ℕ) → Type 0
@@ -42,10 +45,17 @@ text_cause_word cause.Twice = codes "Twice"
 abbrev pub unsettled_line : ℕ → TextCause → List ℕ
 unsettled_line number why = codes "invalid" ++ field (decimal number) ++ field (text_cause_word why) ++ codes "\n"
 
+-- what is printed of it: that line, or the line of its object
+abbrev pub unsettled_in : SettleOutput → ℕ → TextCause → List ℕ
+unsettled_in Lines number why = unsettled_line number why
+unsettled_in Trace number why = unsettled_line number why
+unsettled_in Objects number why = invalid_line number (text_cause_word why)
+
 -- the input does not settle, and this says at which line and why
 abbrev pub Contradicts : SettleTask → (input output : List ℕ) → Type 0
 Contradicts asked input output =
-    (number : ℕ) × (why : TextCause) × IsWrong asked.repeats input number why × (output ≡ unsettled_line number why)
+    (number : ℕ) × (why : TextCause) × IsWrong asked.repeats input number why
+    × (output ≡ unsettled_in asked.printed number why)
 
 -- what an input that was read leads to, by the status
 pub record TellsSettled (asked : SettleTask) (input : List ℕ) (before after : Option (List ℕ))

@@ -14,6 +14,9 @@ use Rattle.ra_script.specs.Performed.{turn_limit}
 use Rattle.ra_script.specs.ScriptText.{script_of}
 use Rattle.ra_cli.specs.declared.error.RunScriptError.{RunScriptError}
 use Rattle.ra_cli.specs.declared.error.RunScriptError.TheVariants as fault
+use Rattle.ra_json.specs.Surveys.{survey_line}
+use Rattle.ra_arguments.specs.declared.form.Form.{Form}
+use Rattle.ra_arguments.specs.declared.form.Form.TheVariants.{Json, Words}
 use Rattle.ra_arguments.specs.declared.command_line.search.Search.{Search}
 use Rattle.ra_arguments.specs.declared.command_line.search.SurveyTask.{SurveyTask}
 
@@ -37,6 +40,11 @@ survey_text survey =
     ++ spread_line (codes "turns") survey.turns
     ++ spread_line (codes "messages") survey.messages
 
+-- what is printed of it in this form
+abbrev pub survey_in : Form → Survey → List ℕ
+survey_in Words survey = survey_text survey
+survey_in Json survey = survey_line survey
+
 -- no seed's run was stuck, or had a choice left at the limit
 abbrev pub AllFinished : Survey → Type 0
 AllFinished survey = (survey.stuck ≡ None) × (survey.limit ≡ None)
@@ -49,7 +57,7 @@ pub record IsSurveyed (asked : SurveyTask) (input output : List ℕ) (finished :
   pub survey : Survey
   pub survey_is : IsSurvey script asked.faults turn_limit asked.seeds.first asked.seeds.last survey
   pub finished_is : IsTrue finished ↔ AllFinished survey
-  pub output_is : output ≡ survey_text survey
+  pub output_is : output ≡ survey_in asked.form survey
 
 -- ---- What is looked for
 

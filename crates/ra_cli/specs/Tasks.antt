@@ -64,10 +64,10 @@ IsDoneBy (task.Answer node nodes) old new before after = AnswersAs node nodes ol
 IsDoneBy (task.Sim policy choices format) old new before after =
     PerformsNamed policy choices.now format old new before after true
 IsDoneBy (task.Survey survey) old new before after = SurveysBy survey old new before after true
-IsDoneBy (task.Check complete) old new before after = Checks 16777216 complete old new before after true
-IsDoneBy (task.CheckMarks complete) old new before after = ChecksMarks 16777216 complete old new before after true
-IsDoneBy (task.Follow kind every complete) old new before after =
-    ChecksKind kind most_followed complete old new before after true
+IsDoneBy (task.Check complete form) old new before after = Checks 16777216 complete form old new before after true
+IsDoneBy (task.CheckMarks complete form) old new before after = ChecksMarks 16777216 complete form old new before after true
+IsDoneBy (task.Follow kind every complete form) old new before after =
+    ChecksKind kind most_followed complete form old new before after true
 IsDoneBy (task.Draw kind part) old new before after = DrawsPart kind part old new before after
 IsDoneBy (task.Cluster printed) old new before after = RunsCluster printed old new before after
 IsDoneBy (task.Help text) old new before after = ⊥
@@ -79,10 +79,10 @@ IsLeftBy (task.Answer node nodes) old new before after = ⊥
 IsLeftBy (task.Sim policy choices format) old new before after =
     PerformsNamed policy choices.now format old new before after false
 IsLeftBy (task.Survey survey) old new before after = SurveysBy survey old new before after false
-IsLeftBy (task.Check complete) old new before after = Checks 16777216 complete old new before after false
-IsLeftBy (task.CheckMarks complete) old new before after = ChecksMarks 16777216 complete old new before after false
-IsLeftBy (task.Follow kind every complete) old new before after =
-    ChecksKind kind most_followed complete old new before after false
+IsLeftBy (task.Check complete form) old new before after = Checks 16777216 complete form old new before after false
+IsLeftBy (task.CheckMarks complete form) old new before after = ChecksMarks 16777216 complete form old new before after false
+IsLeftBy (task.Follow kind every complete form) old new before after =
+    ChecksKind kind most_followed complete form old new before after false
 IsLeftBy (task.Draw kind part) old new before after = IsNotDrawn kind old new before after
 IsLeftBy (task.Cluster printed) old new before after = ⊥
 IsLeftBy (task.Help text) old new before after = ⊥
@@ -94,9 +94,9 @@ IsPrintedBy (task.Sim name choices format) input text =
     (policy : Policy) × (finished : Bool) × IsNamed name choices.now policy
     × IsPerformedAs format policy input text finished
 IsPrintedBy (task.Survey survey) input text = (finished : Bool) × IsTold survey input text finished
-IsPrintedBy (task.Check complete) input text = IsVerdictText reads.Trace input text
-IsPrintedBy (task.CheckMarks complete) input text = IsVerdictText reads.Marks input text
-IsPrintedBy (task.Follow kind every complete) input text = IsVerdictText kind input text
+IsPrintedBy (task.Check complete form) input text = IsVerdictText reads.Trace complete form input text
+IsPrintedBy (task.CheckMarks complete form) input text = IsVerdictText reads.Marks complete form input text
+IsPrintedBy (task.Follow kind every complete form) input text = IsVerdictText kind complete form input text
 IsPrintedBy (task.Draw kind part) input text = IsDrawing kind part input text
 IsPrintedBy (task.Cluster printed) input text = IsClusterRun printed input text
 IsPrintedBy (task.Help shown) input text = ⊥
@@ -119,11 +119,11 @@ IsCauseFor (task.Answer node nodes) old new why = (fault : AnswerError) × (why 
 IsCauseFor (task.Sim policy choices format) old new why = RefusesNamed policy choices.now format old new why
 IsCauseFor (task.Survey survey) old new why = (fault : RunScriptError) × (why ≡ refusal.Survey fault)
     × (fault ≡ run.Read → StopsBefore 65537 old new) × IfSome old (λ input. RefusesSurvey survey input fault)
-IsCauseFor (task.Check complete) old new why = (fault : TraceError) × (why ≡ refusal.Check fault)
+IsCauseFor (task.Check complete form) old new why = (fault : TraceError) × (why ≡ refusal.Check fault)
     × RefusesCheck 16777216 old new fault
-IsCauseFor (task.CheckMarks complete) old new why = (fault : TraceError) × (why ≡ refusal.Check fault)
+IsCauseFor (task.CheckMarks complete form) old new why = (fault : TraceError) × (why ≡ refusal.Check fault)
     × RefusesCheckOfMarks 16777216 old new fault
-IsCauseFor (task.Follow kind every complete) old new why = (fault : TraceError) × (why ≡ refusal.Check fault)
+IsCauseFor (task.Follow kind every complete form) old new why = (fault : TraceError) × (why ≡ refusal.Check fault)
     × RefusesCheckOfKind kind most_followed old new fault
 IsCauseFor (task.Draw kind part) old new why = (fault : DrawError) × (why ≡ refusal.Draw fault)
     × RefusesPart kind part old new fault

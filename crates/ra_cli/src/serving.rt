@@ -59,17 +59,20 @@ pub fn do_alone<R: BufRead, W: Write, O: Observer + TraceWatcher + MarksWatcher>
         Command::Task(Task::Survey(ref survey)) => {
             survey_seeds(alloc, survey, reader, writer, observer)
         }
-        Command::Task(Task::Check { complete }) => judge(alloc, complete, reader, writer),
-        Command::Task(Task::CheckMarks { complete }) => {
-            judge_marks(alloc, complete, reader, writer)
+        Command::Task(Task::Check { complete, form }) => {
+            judge(alloc, complete, form, reader, writer)
+        }
+        Command::Task(Task::CheckMarks { complete, form }) => {
+            judge_marks(alloc, complete, form, reader, writer)
         }
         Command::Task(
             Task::Follow {
                 kind,
                 every,
                 complete,
+                form,
             },
-        ) => { follow_text(alloc, kind, every, complete, reader, writer, observer) }
+        ) => { follow_text(alloc, kind, every, complete, form, reader, writer, observer) }
         Command::Task(Task::Draw { kind, part }) => {
             draw_part(alloc, kind, part, reader, writer, text)
         }

@@ -198,10 +198,11 @@ fn cause_text(cause: UsageCause) -> Option<&'static str> {
         UsageCause::SeedsPolicy => "--seeds requires --policy seeded or faulty",
         UsageCause::OneRun => "--seeds takes --trace, --as-choices or --shrink only with --find",
         UsageCause::ShrinkFinished => "--shrink cannot be used with --find finished",
+        UsageCause::Json => "--json requires --seeds, and cannot be used with --find",
         UsageCause::Part => "--from must be at least 1, and at most --to",
         UsageCause::Books => "--books cannot be used with --trace",
         UsageCause::OfNode => "node takes no arguments",
-        UsageCause::OfSettle => "settle takes no arguments but --repeats and --trace",
+        UsageCause::OfSettle => "settle takes no arguments but --repeats, and --trace or --json",
         UsageCause::Node | UsageCause::Nodes | UsageCause::Seeds | UsageCause::SeedsOrder => {
             return None;
         }

@@ -200,6 +200,11 @@ const SIM_OPTIONS: &[OptionRow] = &[
         help: "Print the final state in place of marks and totals",
         ..FLAG
     },
+    OptionRow {
+        name: "json",
+        help: "With --seeds, print the survey as a JSON object",
+        ..FLAG
+    },
     HELP,
 ];
 
@@ -230,6 +235,11 @@ const SETTLE_OPTIONS: &[OptionRow] = &[
         help: "Print the trace in place of marks and totals",
         ..FLAG
     },
+    OptionRow {
+        name: "json",
+        help: "Print JSON objects in place of lines of words",
+        ..FLAG
+    },
     HELP,
 ];
 
@@ -257,6 +267,11 @@ const CHECK_OPTIONS: &[OptionRow] = &[
         hides_default: true,
         values: Some("0 to 18446744073709551615"),
         ..LONG
+    },
+    OptionRow {
+        name: "json",
+        help: "Print the verdict as a JSON object on one line",
+        ..FLAG
     },
     HELP,
 ];

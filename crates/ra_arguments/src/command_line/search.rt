@@ -1,4 +1,5 @@
 //! What is asked of many seeds.
+use crate::form::Form;
 use ra_schedule::{Ending, Faults, SeedRange};
 use ra_script::OutputKind;
 
@@ -18,6 +19,8 @@ pub struct SurveyTask {
     pub faults: Option<Faults>,
     /// What is looked for among the runs, if anything is.
     pub find: Option<Search>,
+    /// In which form the survey is printed. If something is looked for, it is words.
+    pub form: Form,
     /// The seeds, one for each run.
     pub seeds: SeedRange,
 }

@@ -2,11 +2,12 @@
 ghost use Rattle.std.specs.Prelude.{◌≡◌, Ok};
 ghost use Rattle.clap.specs.Words.{found_of, rows_of};
 ghost use Rattle.ra_arguments.specs.Asked.{IsTaken, IsTaskFor};
-ghost use Rattle.ra_arguments.specs.Meanings.{check_in, draw_in, every_in, kind_in, part_in};
+ghost use Rattle.ra_arguments.specs.Meanings.{check_in, draw_in, every_in, form_in, kind_in, part_in};
 
 use crate::command_line::Task;
 use crate::command_line::input_kind::InputKind;
 use crate::command_line::option_values::{has_flag, long_number};
+use crate::form::Form;
 use crate::usage_fault::UsageCause;
 use clap::ArgMatches;
 use ra_text::Part;
@@ -58,11 +59,23 @@ fn every_of(given: &ArgMatches) -> u64
     long_number(given, "every").unwrap_or(0)
 }
 
+/// Returns in which form results are printed. It does not allocate.
+pub fn form_of(given: &ArgMatches) -> Form
+    ensures { result ≡ form_in (rows_of (found_of given.now)) }
+{
+    if has_flag(given, "json") {
+        Form::Json
+    } else {
+        Form::Words
+    }
+}
+
 /// Returns the task of the command `check`.
 pub fn check_task<'a>(given: &ArgMatches<'a>) -> Task<'a>
     ensures { IsTaskFor (Ok (check_in (rows_of (found_of given.now)))) result }
 {
     let complete = has_flag(given, "complete");
+    let form = form_of(given);
     let kind = kind_of(given);
     if has_flag(given, "follow") {
         let every = every_of(given);
@@ -70,10 +83,11 @@ pub fn check_task<'a>(given: &ArgMatches<'a>) -> Task<'a>
             kind,
             every,
             complete,
+            form,
         };
     }
     match kind {
-        InputKind::Trace => Task::Check { complete },
-        InputKind::Marks => Task::CheckMarks { complete },
+        InputKind::Trace => Task::Check { complete, form },
+        InputKind::Marks => Task::CheckMarks { complete, form },
     }
 }

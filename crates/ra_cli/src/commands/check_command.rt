@@ -1,13 +1,15 @@
 //! The command `check`, for traces and for mark logs.
 ghost use Rattle.std.specs.Prelude.{◌≡◌, ◌⊎◌, true, false};
 ghost use Rattle.ra_arguments.specs.declared.command_line.Task.{Task};
+ghost use Rattle.ra_cli.specs.Checks as spec;
 ghost use Rattle.ra_cli.specs.Tasks.{Does};
 
-use crate::commands::marks_verdict_lines::marks_verdict_text;
-use crate::commands::verdict_lines::verdict_text;
+use crate::commands::marks_verdict_lines::marks_verdict_as;
+use crate::commands::verdict_lines::verdict_as;
 use crate::output::{CommandOutcome, DONE, UNFINISHED, print_text, refuse};
 use crate::refusal_lines::CommandRefusal;
 use crate::remark::Remark;
+use ra_arguments::Form;
 use ra_trace::{
     Line, MarksVerdict, TraceError, Verdict, check_buffered_with_end, check_marks_buffered_with_end,
 };
@@ -19,6 +21,13 @@ fn status_of(passes: bool) -> u8
     ensures { ((result ≡ 0) × (passes ≡ true)) ⊎ ((result ≡ 3) × (passes ≡ false)) }
 {
     if passes { DONE } else { UNFINISHED }
+}
+
+/// Returns whether a text is complete by whether it passes, if that is demanded.
+pub fn if_demanded(demanded: bool, passes: bool) -> Option<bool>
+    ensures { result ≡ spec.if_demanded demanded passes }
+{
+    if demanded { Some(passes) } else { None }
 }
 
 /// Returns the outcome of a verdict that is printed, by which the text passes or not. If it is that a line is wrong for
@@ -56,14 +65,15 @@ pub fn marks_outcome_of(verdict: &MarksVerdict, passes: bool) -> CommandOutcome
     }
 }
 
-/// Checks the text of the reader, which may have to be complete, and writes the lines of its verdict.
+/// Checks the text of the reader, which may have to be complete, and writes its verdict in this form.
 pub fn judge<R: BufRead, W: Write>(
     alloc: Global,
     complete: bool,
+    form: Form,
     reader: &mut R,
     writer: &mut W,
 ) -> CommandOutcome
-    ensures { Does (Task.Check complete) (R.remaining reader.old) (R.remaining reader.new)
+    ensures { Does (Task.Check complete form) (R.remaining reader.old) (R.remaining reader.new)
         (W.contents writer.old) (W.contents writer.new) result.status }
 {
     let mut due = None;
@@ -72,20 +82,21 @@ pub fn judge<R: BufRead, W: Write>(
         Ok(verdict) => verdict,
         Err(fault) => return refuse(writer, CommandRefusal::Check(fault)),
     };
-    match verdict_text(alloc, &verdict) {
+    match verdict_as(alloc, form, if_demanded(complete, passes), &verdict) {
         Ok(text) => print_text(writer, text.as_bytes(), outcome_of(&verdict, due, passes)),
         Err(_) => refuse(writer, CommandRefusal::Check(TraceError::Memory)),
     }
 }
 
-/// Checks the mark log of the reader, which may have to be complete, and writes the lines of its verdict.
+/// Checks the mark log of the reader, which may have to be complete, and writes its verdict in this form.
 pub fn judge_marks<R: BufRead, W: Write>(
     alloc: Global,
     complete: bool,
+    form: Form,
     reader: &mut R,
     writer: &mut W,
 ) -> CommandOutcome
-    ensures { Does (Task.CheckMarks complete) (R.remaining reader.old) (R.remaining reader.new)
+    ensures { Does (Task.CheckMarks complete form) (R.remaining reader.old) (R.remaining reader.new)
         (W.contents writer.old) (W.contents writer.new) result.status }
 {
     let mut passes = false;
@@ -93,7 +104,7 @@ pub fn judge_marks<R: BufRead, W: Write>(
         Ok(verdict) => verdict,
         Err(fault) => return refuse(writer, CommandRefusal::Check(fault)),
     };
-    match marks_verdict_text(alloc, &verdict) {
+    match marks_verdict_as(alloc, form, if_demanded(complete, passes), &verdict) {
         Ok(text) => print_text(writer, text.as_bytes(), marks_outcome_of(&verdict, passes)),
         Err(_) => refuse(writer, CommandRefusal::Check(TraceError::Memory)),
     }

@@ -13,6 +13,7 @@ use crate::refusal_lines::CommandRefusal;
 use crate::remark::Remark;
 use ra_arguments::{SettleOutput, SettleTask};
 use ra_book_text::{SettleTextError, SettledText, TextCause, settle_text};
+use ra_json::{invalid_line, report_lines};
 use ra_stamp::Memory;
 use ra_text::read_up_to;
 use ra_world::report_text;
@@ -35,7 +36,7 @@ fn text_cause_word(cause: TextCause) -> &'static str
     }
 }
 
-/// Returns the lines of the report of a settled run, or its trace.
+/// Returns the lines of the report of a settled run, its trace, or the objects of its marks and totals.
 ///
 /// # Errors
 ///
@@ -46,6 +47,27 @@ fn run_text(alloc: Global, printed: SettleOutput, text: &SettledText) -> Result<
     match printed {
         SettleOutput::Lines => report_text(alloc, &text.settled.report),
         SettleOutput::Trace => trace_of_steps(alloc, text.nodes, text.start, &text.settled.steps),
+        SettleOutput::Objects => report_lines(alloc, &text.settled.report),
+    }
+}
+
+/// Returns what is printed of a text that does not settle: its line, or the line of its object.
+///
+/// # Errors
+///
+/// `Memory`: memory ran out.
+fn unsettled_text(
+    alloc: Global,
+    printed: SettleOutput,
+    line: u64,
+    cause: TextCause,
+) -> Result<String, Memory>
+    ensures { IfOk result (λ text. string_bytes text ≡ spec.unsettled_in printed line cause) }
+{
+    let word = text_cause_word(cause);
+    match printed {
+        SettleOutput::Lines | SettleOutput::Trace => invalid_text(alloc, line, word),
+        SettleOutput::Objects => invalid_line(alloc, line, word),
     }
 }
 
@@ -74,14 +96,19 @@ fn show<W: Write>(
 }
 
 /// Prints the line of a text that does not settle, or that memory ran out.
-fn contradict<W: Write>(alloc: Global, refused: SettleTextError, writer: &mut W) -> CommandOutcome
-    ensures { (asked : SettleTask) (input : List ℕ) → IsUnsettled asked.repeats input refused
+fn contradict<W: Write>(
+    alloc: Global,
+    asked: SettleTask,
+    refused: SettleTextError,
+    writer: &mut W,
+) -> CommandOutcome
+    ensures { (input : List ℕ) → IsUnsettled asked.repeats input refused
         → TellsSettled asked input (W.contents writer.old) (W.contents writer.new) result.status }
 {
     let SettleTextError::Invalid { line, cause } = refused else {
         return refuse_memory(writer);
     };
-    match invalid_text(alloc, line, text_cause_word(cause)) {
+    match unsettled_text(alloc, asked.printed, line, cause) {
         Ok(text) => print_text(
             writer,
             text.as_bytes(),
@@ -105,12 +132,12 @@ fn settle_input<W: Write>(
 {
     match settle_text(alloc, input, asked.repeats) {
         Ok(text) => show(alloc, asked, &text, writer),
-        Err(refused) => contradict(alloc, refused, writer),
+        Err(refused) => contradict(alloc, asked, refused, writer),
     }
 }
 
 /// Reads the books of all nodes, one after the other in one text, and prints the report of the run that they settle
-/// into as asked, or its trace, with status 0. If they do not settle, it prints the line that is wrong, and the cause,
+/// into as asked, its trace, or its objects, with status 0. If they do not settle, it prints the line that is wrong, and the cause,
 /// with status 3. The status is 2 if the text has more than 1,073,741,824 bytes or memory ran out, and 1 if the reader
 /// or the writer failed. A text of at most the allowed length is left in `text`.
 pub fn settle_books<R: Read, W: Write>(

@@ -10,7 +10,7 @@ ghost use Rattle.ra_cli.specs.Tasks.{Does};
 ghost use Rattle.ra_arguments.specs.declared.command_line.Task.{Task};
 
 use crate::commands::script_input::script_from;
-use crate::commands::survey_text::survey_text;
+use crate::commands::survey_text::survey_in;
 use crate::error::RunScriptError;
 use crate::output::{ALL_DONE, CommandOutcome, UNFINISHED, print_text, refuse};
 use crate::refusal_lines::CommandRefusal;
@@ -49,7 +49,7 @@ fn counted_of<O: Observer>(
         faults: asked.faults,
     };
     let counted = survey(alloc, script, &chances, MAX_TURNS, observer)?;
-    let text = survey_text(alloc, &counted)?;
+    let text = survey_in(alloc, asked.form, &counted)?;
     Ok(Printed {
         text,
         finished: all_finished(&counted),

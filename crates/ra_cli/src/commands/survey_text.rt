@@ -4,6 +4,8 @@ ghost use Rattle.ra_text.specs.Drafting.{Adds};
 ghost use Rattle.ra_text.specs.Lines.{field};
 ghost use Rattle.ra_cli.specs.Surveyed as spec;
 
+use ra_arguments::Form;
+use ra_json::survey_line;
 use ra_schedule::{Spread, Survey, Tally};
 use ra_stamp::Memory;
 use ra_text::Draft;
@@ -46,7 +48,7 @@ fn push_spread(text: &mut Draft, word: &str, spread: Option<Spread>)
 /// # Errors
 ///
 /// `Memory`: there is none for the text.
-pub fn survey_text(alloc: Global, survey: &Survey) -> Result<String, Memory>
+fn survey_text(alloc: Global, survey: &Survey) -> Result<String, Memory>
     ensures { IfOk result (λ text. string_bytes text ≡ spec.survey_text survey.now) }
 {
     let mut text = Draft::new(alloc);
@@ -56,4 +58,18 @@ pub fn survey_text(alloc: Global, survey: &Survey) -> Result<String, Memory>
     push_spread(&mut text, "turns", survey.turns);
     push_spread(&mut text, "messages", survey.messages);
     text.finish()
+}
+
+/// Returns what is printed of a survey in this form: its lines, or the line of its object.
+///
+/// # Errors
+///
+/// `Memory`: there is none for the text.
+pub fn survey_in(alloc: Global, form: Form, survey: &Survey) -> Result<String, Memory>
+    ensures { IfOk result (λ text. string_bytes text ≡ spec.survey_in form survey.now) }
+{
+    match form {
+        Form::Words => survey_text(alloc, survey),
+        Form::Json => survey_line(alloc, survey),
+    }
 }

@@ -3,24 +3,12 @@ ghost use Rattle.std.specs.Prelude.{◌≡◌, ◌++◌, codes, decimal, string_
 ghost use Rattle.ra_text.specs.Lines.{field, total_line};
 ghost use Rattle.ra_cli.specs.Checks as spec;
 
+use ra_arguments::Form;
+use ra_json::{cause_word, verdict_line};
 use ra_stamp::Memory;
 use ra_text::Draft;
-use ra_trace::{Cause, Verdict};
+use ra_trace::Verdict;
 use std::alloc::Global;
-
-/// Returns the word of a cause. It does not allocate.
-fn cause_word(cause: Cause) -> &'static str
-    ensures { result.now ≡ spec.cause_word cause }
-{
-    match cause {
-        Cause::Line => "Line",
-        Cause::Refused => "Refused",
-        Cause::NotUnderWay => "NotUnderWay",
-        Cause::Sends => "Sends",
-        Cause::Marks => "Marks",
-        Cause::Table => "Table",
-    }
-}
 
 /// Returns the lines of a text that is valid: the number of its requests, and a second total with its word.
 ///
@@ -70,5 +58,24 @@ pub fn verdict_text(alloc: Global, verdict: &Verdict) -> Result<String, Memory>
     match *verdict {
         Verdict::Valid { requests, messages } => valid_text(alloc, requests, "messages", messages),
         Verdict::Invalid { line, cause } => invalid_text(alloc, line, cause_word(cause)),
+    }
+}
+
+/// Returns what is printed of a verdict in this form: its lines, or the line of its object.
+///
+/// # Errors
+///
+/// `Memory`: there is none for the text.
+pub fn verdict_as(
+    alloc: Global,
+    form: Form,
+    complete: Option<bool>,
+    verdict: &Verdict,
+) -> Result<String, Memory>
+    ensures { IfOk result (λ text. string_bytes text ≡ spec.verdict_as form complete verdict.now) }
+{
+    match form {
+        Form::Words => verdict_text(alloc, verdict),
+        Form::Json => verdict_line(alloc, complete, verdict),
     }
 }

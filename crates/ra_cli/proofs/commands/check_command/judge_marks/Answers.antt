@@ -1,4 +1,4 @@
-use Rattle.std.proofs.Common.{◌≡◌, ℕ, true, false, List, Option, Err, ap, refl, ◌∙◌, inl, inr}
+use Rattle.std.proofs.Common.{◌≡◌, ℕ, Bool, true, false, List, Option, Err, ap, refl, ◌∙◌, inl, inr}
 use Rattle.ra_trace.specs.declared.mark_log.marks_verdict.MarksVerdict.{MarksVerdict}
 use Rattle.ra_trace.specs.declared.mark_log.marks_verdict.MarksVerdict.TheVariants.{Valid, Invalid}
 use Rattle.ra_trace.specs.Marks.{IsMarksVerdict}
@@ -7,11 +7,11 @@ use Rattle.ra_trace.specs.declared.error.TraceError.TheVariants.{Limit, Memory, 
 use Rattle.ra_trace.specs.MarksReading.{JudgesMarks, PassesMarksLimit, ReadsOnMarks, StopsAfterMarks}
 use Rattle.ra_trace.specs.Complete.{MeetsLog}
 use Rattle.ra_arguments.specs.declared.command_line.Task.TheVariants as task
-use Rattle.ra_cli.specs.Checks.{RefusesCheckOfMarks, is_run, marks_verdict_text}
+use Rattle.ra_cli.specs.Checks.{RefusesCheckOfMarks, is_run, marks_verdict_as, marks_verdict_in}
 use Rattle.ra_cli.specs.declared.refusal_lines.CommandRefusal.TheVariants.{Check}
 use Rattle.ra_cli.specs.Tasks.{IsPrintedBy}
 use Rattle.ra_cli.proofs.ClusterRuns.{of_known}
-use Rattle.ra_cli.proofs.Judging.{judges}
+use Rattle.ra_cli.proofs.Judging.{both_known, judges}
 use Rattle.ra_cli.proofs.Statuses.{writes_as}
 use Rattle.ra_cli.proofs.TaskStatuses.{if_judged, if_refused_at_once}
 use Rattle.ra_cli.proofs.commands.check_command.judge_marks.Goals as goal
@@ -28,8 +28,8 @@ cause old new Read failed limit memory = failed refl
 cause old new Limit failed limit memory = limit refl
 cause old new Memory failed limit memory = inl (memory refl)
 
-pub returns-in-Ok-marks_verdict_text : goal.returns-in-Ok-marks_verdict_text
-returns-in-Ok-marks_verdict_text g c =
+pub returns-in-Ok-marks_verdict_as : goal.returns-in-Ok-marks_verdict_as
+returns-in-Ok-marks_verdict_as g c =
     let old = g.R.Read.remaining c.args.reader.now in
     let new = g.R.Read.remaining c.check_marks_buffered_with_end.new.reader in
     let before = g.W.Write.contents c.args.writer.now in
@@ -37,21 +37,24 @@ returns-in-Ok-marks_verdict_text g c =
     let verdict = c.in-Ok.verdict in
     let passes = c.check_marks_buffered_with_end.new.passes in
     let known = c.in-Ok.ensures.checks in
-    if_judged (task.CheckMarks c.args.complete) old new before after c.print_text.result.status (marks_verdict_text verdict) c.marks_outcome_of.result.status (passes ≡ true) (passes ≡ false)
+    let text = marks_verdict_in c.args.form c.args.complete passes verdict in
+    if_judged (task.CheckMarks c.args.complete c.args.form) old new before after c.print_text.result.status text c.marks_outcome_of.result.status (passes ≡ true) (passes ≡ false)
     c.marks_outcome_of.ensures
-    (writes_as (marks_verdict_text verdict) c.as_bytes.result.now c.marks_outcome_of.result.status before after c.print_text.result.status c.print_text.result.status refl
-    (c.as_bytes.ensures.value ∙ c.in-Ok-marks_verdict_text.ensures) c.print_text.ensures)
-    (judges IsMarksVerdict (MeetsLog c.args.complete) (JudgesMarks 16777216) is_run marks_verdict_text Valid right 16777216 old new before after verdict passes true known.ok known.valid c.in-Ok.ensures.end known.judged)
-    (judges IsMarksVerdict (MeetsLog c.args.complete) (JudgesMarks 16777216) is_run marks_verdict_text Valid right 16777216 old new before after verdict passes false known.ok known.valid c.in-Ok.ensures.end known.judged)
-    (of_known old (λ input. IsMarksVerdict input verdict) (λ input. IsPrintedBy (task.CheckMarks c.args.complete) input (marks_verdict_text verdict)) (λ input h. (verdict, h, refl)) known.ok)
+    (writes_as text c.as_bytes.result.now c.marks_outcome_of.result.status before after c.print_text.result.status c.print_text.result.status refl
+    (c.as_bytes.ensures.value ∙ c.in-Ok-marks_verdict_as.ensures ∙ ap (λ (o : Option Bool). marks_verdict_as c.args.form o verdict) c.if_demanded.ensures) c.print_text.ensures)
+    (judges IsMarksVerdict (MeetsLog c.args.complete) (JudgesMarks 16777216) is_run (marks_verdict_in c.args.form c.args.complete) Valid right 16777216 old new before after verdict passes true known.ok known.valid c.in-Ok.ensures.end known.judged)
+    (judges IsMarksVerdict (MeetsLog c.args.complete) (JudgesMarks 16777216) is_run (marks_verdict_in c.args.form c.args.complete) Valid right 16777216 old new before after verdict passes false known.ok known.valid c.in-Ok.ensures.end known.judged)
+    (of_known old (λ input. IsMarksVerdict input verdict × MeetsLog c.args.complete input verdict passes) (λ input. IsPrintedBy (task.CheckMarks c.args.complete c.args.form) input text)
+    (λ input h. (verdict, passes, h.0, h.1, refl))
+    (both_known old (λ input. IsMarksVerdict input verdict) (λ input. MeetsLog c.args.complete input verdict passes) known.ok c.in-Ok.ensures.end.1))
 
 pub returns-in-Err : goal.returns-in-Err
 returns-in-Err g c =
     let fault = c.in-Err.fault in
-    if_refused_at_once (task.CheckMarks c.args.complete) _ _ _ _ _ (Check fault) _ c.refuse.ensures (λ writer. writer)
+    if_refused_at_once (task.CheckMarks c.args.complete c.args.form) _ _ _ _ _ (Check fault) _ c.refuse.ensures (λ writer. writer)
     (fault, refl, cause _ _ fault (λ is. c.in-Err.ensures.checks.failed (ap Err is)) (λ is. c.in-Err.ensures.checks.limit (ap Err is)) (λ is. c.in-Err.ensures.checks.memory (ap Err is)))
 
-pub returns-in-Err-marks_verdict_text : goal.returns-in-Err-marks_verdict_text
-returns-in-Err-marks_verdict_text g c =
-    if_refused_at_once (task.CheckMarks c.args.complete) _ _ _ _ _ (Check Memory) _ c.refuse-in-Err-marks_verdict_text.ensures (λ writer. writer)
+pub returns-in-Err-marks_verdict_as : goal.returns-in-Err-marks_verdict_as
+returns-in-Err-marks_verdict_as g c =
+    if_refused_at_once (task.CheckMarks c.args.complete c.args.form) _ _ _ _ _ (Check Memory) _ c.refuse-in-Err-marks_verdict_as.ensures (λ writer. writer)
     (Memory, refl, inr (c.in-Ok.verdict, c.in-Ok.ensures.checks.judged))

@@ -1,4 +1,4 @@
-use Rattle.std.proofs.Common.{◌≡◌, ℕ, true, false, List, Option, Ok, Err, ap, refl, ◌∙◌, inl, inr}
+use Rattle.std.proofs.Common.{◌≡◌, ℕ, Bool, true, false, List, Option, Ok, Err, ap, refl, ◌∙◌, inl, inr}
 use Rattle.ra_trace.specs.declared.checker.verdict.Verdict.{Verdict}
 use Rattle.ra_trace.specs.declared.checker.verdict.Verdict.TheVariants.{Valid, Invalid}
 use Rattle.ra_trace.specs.Verdict.{IsVerdict}
@@ -8,11 +8,11 @@ use Rattle.ra_trace.specs.Reading.{Judges as ShowsVerdict, PassesLimit, ReadsOn,
 use Rattle.ra_trace.specs.Complete.{MeetsTrace}
 use Rattle.ra_arguments.specs.declared.command_line.Task.TheVariants as task
 use Rattle.ra_arguments.specs.declared.command_line.input_kind.InputKind.TheVariants as reads
-use Rattle.ra_cli.specs.Checks.{RefusesCheck, is_valid, verdict_text}
+use Rattle.ra_cli.specs.Checks.{RefusesCheck, is_valid, verdict_as, verdict_in}
 use Rattle.ra_cli.specs.declared.refusal_lines.CommandRefusal.TheVariants.{Check}
 use Rattle.ra_cli.specs.Tasks.{IsPrintedBy}
 use Rattle.ra_cli.proofs.ClusterRuns.{of_known}
-use Rattle.ra_cli.proofs.Judging.{judges}
+use Rattle.ra_cli.proofs.Judging.{both_known, judges}
 use Rattle.ra_cli.proofs.Numbers.{neither}
 use Rattle.ra_cli.proofs.Statuses.{writes_as}
 use Rattle.ra_cli.proofs.TaskStatuses.{if_judged, if_refused_at_once}
@@ -30,8 +30,8 @@ cause old new Read failed limit memory = failed refl
 cause old new Limit failed limit memory = limit refl
 cause old new Memory failed limit memory = inl (memory refl)
 
-pub returns-in-Ok-verdict_text-clause-does : goal.returns-in-Ok-verdict_text-clause-does
-returns-in-Ok-verdict_text-clause-does g c =
+pub returns-in-Ok-verdict_as-clause-does : goal.returns-in-Ok-verdict_as-clause-does
+returns-in-Ok-verdict_as-clause-does g c =
     let old = g.R.Read.remaining c.args.reader.now in
     let new = g.R.Read.remaining c.follow_trace_with_end.new.reader in
     let before = g.W.Write.contents c.args.writer.now in
@@ -39,30 +39,33 @@ returns-in-Ok-verdict_text-clause-does g c =
     let verdict = c.in-Ok.verdict in
     let passes = c.follow_trace_with_end.new.passes in
     let known = c.in-Ok.ensures.checks in
-    if_judged (task.Follow reads.Trace c.args.every c.args.complete) old new before after c.print_text.result.status (verdict_text verdict) c.outcome_of.result.status (passes ≡ true) (passes ≡ false)
+    let text = verdict_in c.args.form c.args.complete passes verdict in
+    if_judged (task.Follow reads.Trace c.args.every c.args.complete c.args.form) old new before after c.print_text.result.status text c.outcome_of.result.status (passes ≡ true) (passes ≡ false)
     c.outcome_of.ensures
-    (writes_as (verdict_text verdict) c.as_bytes.result.now c.outcome_of.result.status before after c.print_text.result.status c.print_text.result.status refl
-    (c.as_bytes.ensures.value ∙ c.in-Ok-verdict_text.ensures) c.print_text.ensures)
-    (judges IsVerdict (MeetsTrace c.args.complete) (ShowsVerdict 9223372036854775808) is_valid verdict_text Valid right 9223372036854775808 old new before after verdict passes true known.ok known.valid c.in-Ok.ensures.end known.judged)
-    (judges IsVerdict (MeetsTrace c.args.complete) (ShowsVerdict 9223372036854775808) is_valid verdict_text Valid right 9223372036854775808 old new before after verdict passes false known.ok known.valid c.in-Ok.ensures.end known.judged)
-    (of_known old (λ input. IsVerdict input verdict) (λ input. IsPrintedBy (task.Follow reads.Trace c.args.every c.args.complete) input (verdict_text verdict)) (λ input h. (verdict, h, refl)) known.ok)
+    (writes_as text c.as_bytes.result.now c.outcome_of.result.status before after c.print_text.result.status c.print_text.result.status refl
+    (c.as_bytes.ensures.value ∙ c.in-Ok-verdict_as.ensures ∙ ap (λ (o : Option Bool). verdict_as c.args.form o verdict) c.if_demanded.ensures) c.print_text.ensures)
+    (judges IsVerdict (MeetsTrace c.args.complete) (ShowsVerdict 9223372036854775808) is_valid (verdict_in c.args.form c.args.complete) Valid right 9223372036854775808 old new before after verdict passes true known.ok known.valid c.in-Ok.ensures.end known.judged)
+    (judges IsVerdict (MeetsTrace c.args.complete) (ShowsVerdict 9223372036854775808) is_valid (verdict_in c.args.form c.args.complete) Valid right 9223372036854775808 old new before after verdict passes false known.ok known.valid c.in-Ok.ensures.end known.judged)
+    (of_known old (λ input. IsVerdict input verdict × MeetsTrace c.args.complete input verdict passes) (λ input. IsPrintedBy (task.Follow reads.Trace c.args.every c.args.complete c.args.form) input text)
+    (λ input h. (verdict, passes, h.0, h.1, refl))
+    (both_known old (λ input. IsVerdict input verdict) (λ input. MeetsTrace c.args.complete input verdict passes) known.ok c.in-Ok.ensures.end.1))
 
 pub returns-in-Err-clause-does : goal.returns-in-Err-clause-does
 returns-in-Err-clause-does g c =
     let fault = c.in-Err.fault in
-    if_refused_at_once (task.Follow reads.Trace c.args.every c.args.complete) _ _ _ _ _ (Check fault) _ c.refuse.ensures (λ writer. writer)
+    if_refused_at_once (task.Follow reads.Trace c.args.every c.args.complete c.args.form) _ _ _ _ _ (Check fault) _ c.refuse.ensures (λ writer. writer)
     (fault, refl, cause _ _ fault (λ is. c.in-Err.ensures.checks.failed (ap Err is)) (λ is. c.in-Err.ensures.checks.limit (ap Err is)) (λ is. c.in-Err.ensures.checks.memory (ap Err is)))
 
-pub returns-in-Err-verdict_text-clause-does : goal.returns-in-Err-verdict_text-clause-does
-returns-in-Err-verdict_text-clause-does g c =
-    if_refused_at_once (task.Follow reads.Trace c.args.every c.args.complete) _ _ _ _ _ (Check Memory) _ c.refuse-in-Err-verdict_text.ensures (λ writer. writer)
+pub returns-in-Err-verdict_as-clause-does : goal.returns-in-Err-verdict_as-clause-does
+returns-in-Err-verdict_as-clause-does g c =
+    if_refused_at_once (task.Follow reads.Trace c.args.every c.args.complete c.args.form) _ _ _ _ _ (Check Memory) _ c.refuse-in-Err-verdict_as.ensures (λ writer. writer)
     (Memory, refl, inr (c.in-Ok.verdict, c.in-Ok.ensures.checks.judged))
 
-pub returns-in-Ok-verdict_text-clause-told : goal.returns-in-Ok-verdict_text-clause-told
-returns-in-Ok-verdict_text-clause-told g c = (Ok c.in-Ok.verdict, c.in-Ok.ensures.tells, λ _ _. c.in-Ok.ensures.checks.ok)
+pub returns-in-Ok-verdict_as-clause-told : goal.returns-in-Ok-verdict_as-clause-told
+returns-in-Ok-verdict_as-clause-told g c = (Ok c.in-Ok.verdict, c.in-Ok.ensures.tells, λ _ _. c.in-Ok.ensures.checks.ok)
 
-pub returns-in-Err-verdict_text-clause-told : goal.returns-in-Err-verdict_text-clause-told
-returns-in-Err-verdict_text-clause-told g c = (Ok c.in-Ok.verdict, c.in-Ok.ensures.tells, λ _ _. c.in-Ok.ensures.checks.ok)
+pub returns-in-Err-verdict_as-clause-told : goal.returns-in-Err-verdict_as-clause-told
+returns-in-Err-verdict_as-clause-told g c = (Ok c.in-Ok.verdict, c.in-Ok.ensures.tells, λ _ _. c.in-Ok.ensures.checks.ok)
 
 pub returns-in-Err-clause-told : goal.returns-in-Err-clause-told
 returns-in-Err-clause-told g c =

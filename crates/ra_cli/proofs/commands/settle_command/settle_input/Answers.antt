@@ -4,4 +4,4 @@ pub returns-in-Ok : goal.returns-in-Ok
 returns-in-Ok g c = c.show.ensures c.args.input.now c.in-Ok.ensures.settled
 
 pub returns-in-Err : goal.returns-in-Err
-returns-in-Err g c = c.contradict.ensures c.args.asked c.args.input.now c.in-Err.ensures.refused
+returns-in-Err g c = c.contradict.ensures c.args.input.now c.in-Err.ensures.refused
