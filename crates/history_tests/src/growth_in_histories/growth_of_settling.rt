@@ -57,26 +57,6 @@ fn try_to_settle(
     }
 }
 
-/// The run of the one lock: the ask, two messages and the leave.
-const ONE_RUN: Due = (4, (1, 2), (0, 0));
-
-/// Settles two books. If that is refused, memory ran out.
-fn try_settling(rt: &impl Abort, alloc: Global) -> Result<Tried, Memory> {
-    let books = books_after(rt, alloc, "one lock", &[ONE, TWO], ONE_LOCK);
-    if books.len() == 2 {
-        try_to_settle(rt, alloc, &books, &[], ONE_RUN)
-    } else {
-        Err(Memory)
-    }
-}
-
-#[test]
-fn growth_of_settling(rt: HostRuntime) {
-    let alloc = rt.alloc();
-    let (first, second) = (try_settling(&rt, alloc), try_settling(&rt, alloc));
-    assert_grown!(&rt, again(first, second));
-}
-
 /// The same, after which the client asks again, its REQUEST is lost, it gives up, and its node forgets names.
 const ASKS_AGAIN: &[Done] = &[
     AtNode(1, Takes(ASK)),
