@@ -50,14 +50,17 @@ class FailingReaders(PreloadTest):
         self.expect_of(fails_at_each_byte(ANSWER, TEXTS["REQUEST_LINE"]))
 
     def test_a_reader_that_fails_after_any_byte_of_a_script_is_a_fault(self):
-        for words in ("sim", "sim --trace", "cluster"):
+        sims = ("sim", "sim --trace", "sim --trace --sends", "sim --as-choices", "sim --shrink", "sim --state")
+        for words in (*sims, "cluster"):
             self.expect_of(fails_at_each_byte(words, TEXTS["ONE_CLIENT"]))
 
     def test_a_reader_that_fails_after_any_byte_of_a_trace_is_a_fault(self):
-        self.expect_of(fails_at_each_byte("check", TEXTS["ONE_CLIENT_TRACE"]))
+        for words in ("check", "draw"):
+            self.expect_of(fails_at_each_byte(words, TEXTS["ONE_CLIENT_TRACE"]))
 
     def test_a_reader_that_fails_after_any_byte_of_a_log_is_a_fault(self):
-        self.expect_of(fails_at_each_byte("check --marks", TEXTS["IN_TURN_LOG"]))
+        for words in ("check --marks", "draw --marks"):
+            self.expect_of(fails_at_each_byte(words, TEXTS["IN_TURN_LOG"]))
 
     def test_a_reader_that_fails_after_any_byte_of_books_is_a_fault(self):
         for words, given in (("settle", "BOOKS_UNASKED"), ("settle --repeats", "BOOKS_TWO_AGAIN")):
@@ -69,6 +72,18 @@ class FailingReaders(PreloadTest):
         for run in fails_at_each_byte("node", given):
             answers = "".join(answer for _, answer in BOOK[:given[:run.reader.before].count("\n")])
             runs.append(dataclasses.replace(run, expected={**run.expected, "output": f"{answers}refused Read\n".encode()}))
+        self.expect_of(runs)
+
+    def test_each_prefix_of_a_book_has_its_answers_in_whatever_pieces_it_comes(self):
+        given = "".join(line for line, _ in BOOK)
+        runs = []
+        for length in range(len(given) + 1):
+            lines = given[:length].count("\n")
+            came = {"status": 0, "output": "".join(answer for _, answer in BOOK[:lines]).encode()}
+            if not lines:
+                # The line of the book is not there.
+                came = {"status": 2, "output": b"refused Line\n"}
+            runs += [Run("node", given[:length], Stream(piece=piece), expected=came) for piece in range(1, 6)]
         self.expect_of(runs)
 
     def test_a_fault_of_the_reader_comes_before_what_is_wrong_with_the_line(self):

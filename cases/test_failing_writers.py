@@ -72,9 +72,17 @@ class FailingWriters(PreloadTest):
         self.expect_written(ANSWER, SILENT, "", 0)
 
     def test_a_writer_that_fails_has_a_prefix_of_the_lines(self):
-        for words, printed in (("sim", "ONE_CLIENT_PRINTED"), ("sim --trace", "ONE_CLIENT_TRACE")):
-            self.expect_prefixes(words, TEXTS["ONE_CLIENT"], TEXTS[printed])
-            self.expect_written(words, TEXTS["ONE_CLIENT"], TEXTS[printed], 0)
+        outputs = (
+            ("sim", TEXTS["ONE_CLIENT_PRINTED"]),
+            ("sim --trace", TEXTS["ONE_CLIENT_TRACE"]),
+            ("sim --trace --sends", TEXTS["ONE_LOCK_SENDS"]),
+            ("sim --as-choices", "c1 m0 m0 c1\n"),
+            ("sim --shrink", "none\n"),
+            ("sim --state", "steps 4\nnode 1 r 1 idle\nnode 2 r 1 idle\nclient 1 1 done\n"),
+        )
+        for words, printed in outputs:
+            self.expect_prefixes(words, TEXTS["ONE_CLIENT"], printed)
+            self.expect_written(words, TEXTS["ONE_CLIENT"], printed, 0)
 
     def test_a_writer_that_fails_has_a_prefix_of_what_the_threads_did(self):
         outputs = (
@@ -95,6 +103,10 @@ class FailingWriters(PreloadTest):
         self.expect_prefixes("check --marks", TEXTS["IN_TURN_LOG"], LOG_VERDICT)
         self.expect_written("check --marks", TEXTS["IN_TURN_LOG"], LOG_VERDICT, 0)
         self.expect_prefixes("check --marks", BOTH_INSIDE, "invalid 4 Held\n")
+
+    def test_a_writer_that_fails_has_the_first_bytes_of_a_picture(self):
+        for words, given in (("draw", "ONE_CLIENT_TRACE"), ("draw --marks", "IN_TURN_LOG")):
+            self.expect_prefixes(words, TEXTS[given], '<svg xmlns="http://www.w3.org/2000/svg"')
 
     def test_a_writer_that_fails_has_a_prefix_of_the_answers_to_a_book(self):
         answers = "ok\nrequest 1 7 r X 1\nenter 1 7 r X 1\nok\nrefused Line\nleave 1 7 r X 1\nok\n"

@@ -1,4 +1,3 @@
 //! Books as they are answered and written.
-pub mod book_prefixes;
 pub mod book_streams;
 pub mod written_books;

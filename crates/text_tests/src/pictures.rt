@@ -1,14 +1,12 @@
-//! Pictures of traces: what is in parts that no command draws, and readers and writers that fail. `cases/` has the
-//! rest.
-use crate::shared_texts::{ONE_LOCK, failing};
+//! Pictures of traces: what is in parts that no command draws. `cases/` has the rest.
+use crate::shared_texts::ONE_LOCK;
 use crate::text_asserting::{assert_same, fail};
 use ra_draw::{DrawError, Part, draw};
 use ra_trace::Verdict;
 use std::alloc::Global;
-use std::io;
 use std::io::{Read, Write};
 use std::process::Abort;
-use test_support::{FailingReader, part, row};
+use test_support::{part, row};
 
 /// A trace, a part of it, and how often some words occur in the picture of that.
 #[derive(Clone, Copy)]
@@ -110,27 +108,4 @@ fn a_part_may_begin_at_0_but_not_after_its_end(rt: HostRuntime) {
     let came = drawn_to(rt.alloc(), &mut reader, &mut picture, lines(20, 10));
     let no_lines = Err(DrawError::NoLines { lines: 9 });
     assert_same(&rt, row("what came"), &came, &no_lines);
-}
-
-/// A reader that fails is a fault, and nothing is drawn.
-#[test]
-fn a_reader_that_fails_is_a_fault(rt: HostRuntime) {
-    let trace = ONE_LOCK.as_bytes();
-    let mut reader = FailingReader::new(trace, 1, Some(139), io::ErrorKind::Interrupted);
-    let mut picture = Vec::new(rt.alloc());
-    let came = drawn_to(rt.alloc(), &mut reader, &mut picture, Part::WHOLE);
-    assert_same(&rt, row("what came"), &came, &Err(DrawError::Read));
-    assert_same(&rt, row("bytes that are left"), &reader.bytes.len(), &1);
-    assert_same(&rt, row("bytes that are drawn"), &picture.len(), &0);
-}
-
-/// A writer that fails is a fault, and has what came before.
-#[test]
-fn a_writer_that_fails_is_a_fault(rt: HostRuntime) {
-    let mut reader = ONE_LOCK.as_bytes();
-    let mut writer = failing("<svg xmlns=", 7, Some(io::ErrorKind::Interrupted));
-    let came = drawn_to(rt.alloc(), &mut reader, &mut writer, Part::WHOLE);
-    assert_same(&rt, row("what came"), &came, &Err(DrawError::Write));
-    assert_same(&rt, row("bytes that are left"), &writer.left.len(), &4);
-    assert_same(&rt, row("another byte"), &writer.other, &None);
 }

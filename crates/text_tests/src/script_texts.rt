@@ -1,5 +1,4 @@
-//! Scripts and choices as they are read, performed and written.
+//! Scripts and choices as they are read, and choices as they are written.
 pub mod choice_words;
-pub mod performed_scripts;
 pub mod script_clients;
 pub mod written_choices;

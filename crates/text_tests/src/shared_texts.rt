@@ -103,7 +103,7 @@ fn adds_part(text: &mut Vec<u8>, part: Part<'_>) -> bool {
 }
 
 /// Adds these parts to a text. Returns whether there was room.
-pub fn adds_parts(text: &mut Vec<u8>, parts: &[Part<'_>]) -> bool {
+fn adds_parts(text: &mut Vec<u8>, parts: &[Part<'_>]) -> bool {
     for part in parts {
         if !adds_part(text, *part) {
             return false;

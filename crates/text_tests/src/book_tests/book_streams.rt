@@ -1,17 +1,12 @@
-//! Writers that fail, and what is written before more input is waited for.
+//! What is written before more input is waited for.
 use crate::text_asserting::assert_same;
-use crate::trace_tests::traced_steps::assert_left;
 use ra_book_text::{BookFault, answer_book};
 use std::alloc::Global;
 use std::cell::Cell;
 use std::io;
 use std::io::{BufRead, ErrorKind, Read, Write};
 use std::process::Abort;
-use test_support::{failing_writer, row};
-
-const BOOK: &str = "book 1 1 1 0\nask 7 door X\n";
-
-const ANSWERS: &str = "ok\nrequest 1 7 door X 1\nenter 1 7 door X 1\nok\n";
+use test_support::row;
 
 /// Returns how a book of one node ends, if its answers go to this writer.
 fn answered<B: BufRead, W: Write>(
@@ -20,28 +15,6 @@ fn answered<B: BufRead, W: Write>(
     writer: &mut W,
 ) -> Result<(), BookFault> {
     answer_book(alloc, reader, writer)
-}
-
-/// Ends the test if a writer that fails so after this many bytes of the answers is written to again, or has not taken
-/// them.
-fn assert_unwritten(rt: &(impl Abort + AllocGlobal), count: usize, fault: Option<ErrorKind>) {
-    let mut reader = BOOK.as_bytes();
-    let mut writer = failing_writer(ANSWERS.as_bytes(), count, fault);
-    let came = answered(rt.alloc(), &mut reader, &mut writer);
-    assert_same(rt, row("the end"), &came, &Err(BookFault::Write));
-    let left = ANSWERS.len().saturating_sub(count);
-    assert_left(rt, row("the bytes that are left"), &writer, left);
-}
-
-/// What was written before a writer fails is a prefix of the answers, and nothing is written after that.
-#[test]
-fn a_writer_fails_after_each_byte(rt: HostRuntime) {
-    for count in 0..ANSWERS.len() {
-        assert_unwritten(&rt, count, Some(ErrorKind::BrokenPipe));
-        assert_unwritten(&rt, count, Some(ErrorKind::Interrupted));
-        assert_unwritten(&rt, count, Some(ErrorKind::WouldBlock));
-        assert_unwritten(&rt, count, None);
-    }
 }
 
 /// How many bytes were passed on.

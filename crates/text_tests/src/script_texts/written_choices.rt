@@ -1,10 +1,9 @@
 //! How lists of choices are written, and which ones have no text.
-use crate::script_texts::performed_scripts::{performed, reader_of};
 use crate::shared_texts::{ONE_LOCK_SCRIPT, failing};
 use crate::text_asserting::{assert_same, fail};
 use Choice::{Client, Lost, Message, Repeated};
 use ra_schedule::{Choice, Choices, ChoicesError, Faults, Policy, choices_text};
-use ra_script::{OutputKind, PerformError};
+use ra_script::{OutputKind, PerformError, perform_as};
 use std::alloc::Global;
 use std::process::Abort;
 use test_support::{FailingWriter, part, row};
@@ -77,8 +76,8 @@ fn repeats_and_ten_digits_have_no_text(rt: HostRuntime) {
 fn fault_by(alloc: Global, seed: u64, writer: &mut FailingWriter<'_>) -> Option<PerformError> {
     let faults = Faults::new(0, 400)?;
     let policy = Policy::Faulty { seed, faults };
-    let mut reader = reader_of(ONE_LOCK_SCRIPT.as_bytes());
-    performed(alloc, &mut reader, writer, OutputKind::Choices, &policy).err()
+    let mut reader = ONE_LOCK_SCRIPT.as_bytes();
+    perform_as(alloc, &mut reader, writer, OutputKind::Choices, &policy).err()
 }
 
 /// Some seed below 100 repeats a message, which no word can say, so nothing is written.
