@@ -18,3 +18,4 @@ pub mod Shown
 pub mod Numbered
 pub mod Locking
 pub mod Found
+pub mod AtHost

@@ -192,7 +192,7 @@ module _ (cl mid cl' : BTreeMap ℕ Client) (nu nu' : Numbers) (en : BTreeSet En
             absurd (false≢true still)
         | inr apart ↦ parts.0.before j apart
       ]
-  parted_kept false (u ∷ us) is some parts j had = absurd (false≢true some)
+  parted_kept false (u ∷ vs) is some parts j had = absurd (false≢true some)
 
   pub parted_had : (j : ℕ) → is_had (connection_at cl' j) (uses_at cl' j) ≡ true → is_had (connection_at cl j) (uses_at cl j) ≡ true
   parted_had j had =

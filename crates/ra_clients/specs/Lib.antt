@@ -11,3 +11,4 @@ pub mod Roster
 pub mod RosterUse
 pub mod Results
 pub mod Shown
+pub mod AtHost

@@ -1,6 +1,10 @@
 //! What is true of the clients of a host, whatever happens. Each function does nothing, and its contract is the law.
 ghost use Rattle.std.specs.Prelude.{◌≡◌, ◌≢◌, ◌⊎◌, ◌+◌, ℕ, ◌≤◌, List, [], Option, Some, None, Contains, length};
+ghost use Rattle.ra_book.specs.declared.book.event.BookKind.{BookKind};
 ghost use Rattle.ra_book.specs.declared.book.event.BookKind.TheVariants.{Leave};
+ghost use Rattle.ra_book.specs.Book.{HasHistory};
+ghost use Rattle.ra_host.specs.Host.{Host, Happens};
+ghost use Rattle.ra_clients.specs.AtHost.{AreHoldersAt, HoldsAt, IsByTurn, entered_in};
 ghost use Rattle.ra_host_text.specs.declared.answer.Answer.TheVariants.{Refused, Unlocked};
 ghost use Rattle.ra_host_text.specs.declared.answer.Refusal.{Refusal};
 ghost use Rattle.ra_clients.specs.declared.uses.NameUse.{NameUse};
@@ -8,8 +12,10 @@ ghost use Rattle.ra_clients.specs.Uses.{use_of, without};
 ghost use Rattle.ra_clients.specs.Clients.{Limits, Clients, Event, IsLeaving, Turn, Turns};
 ghost use Rattle.ra_clients.specs.Clients.Event.{Gone, Refuse};
 ghost use Rattle.ra_clients.specs.Counts.{IsCounted};
-ghost use Rattle.ra_clients.specs.AtNode.{AreDistinct, AreHeld, Holding, Step};
+ghost use Rattle.ra_clients.specs.AtNode.{AreDistinct, AreHeld, Holding, IsAtNode, LetsIn, Step, TurnsIfAny};
 ghost use Rattle.ra_clients.specs.Laws.{CanGiveBack, ChangesNothing, HoldsOrLeaves, IsAccountedFor, IsAsked, IsGrant, IsHolder, IsSound, IsTakenBack, IsUnconnected, IsUnlock, IsWithin, Lead, NeverLeaves, TellsGranted, TellsUnlocked};
+
+use ra_host::what_is_granted_is_held_until_its_client_leaves;
 
 /// Told is held: a client that is told `granted` waited for the name and holds it now, since its node let it in in this
 /// very turn. It holds the name until its node is to give it back. That comes only if the client is told `unlocked` in
@@ -28,7 +34,7 @@ pub fn what_is_told_is_held()
 /// Whoever holds a name holds it by the node, too, and no client has a name twice. If it was so before something
 /// happened to the clients or at their node, it is so after it. Of the node two things are taken: a client that is let
 /// in holds the name after the event, and it holds it until the node is to give it back. Of the node of a host they are
-/// so by `what_is_granted_is_held_until_its_client_leaves` of `ra_host`.
+/// so by `the_node_of_a_host_keeps_what_its_clients_hold`.
 pub fn who_holds_a_name_holds_it_by_the_node()
     ensures distinct { (l : Limits) (old new : Clients) (before after : Holding) (e : Option Event)
         → Step l old before e new after → AreDistinct old → AreHeld old before → AreDistinct new }
@@ -91,3 +97,21 @@ pub fn clients_keep_within_their_limit()
     ensures clients { (l : Limits) (s : Clients) (e : Event) (t : Turn) → Turns l s e t → s.count ≤ l.clients
         → t.clients.count ≤ l.clients }
 {}
+
+/// What `who_holds_a_name_holds_it_by_the_node` takes of a node is so of the node of a host, by its book: whoever an
+/// event lets in holds the name after it, and holds it until the client's turn is that the node gives it back. So a
+/// client that was told that it holds a name holds it by the book of its host.
+pub fn the_node_of_a_host_keeps_what_its_clients_hold()
+    ensures node { (h new : Host) (kind : BookKind) (does : Option BookKind) (held after : Holding)
+        → HasHistory h.book → (event : Happens h kind new) → IsByTurn does kind → AreHoldersAt h held
+        → AreHoldersAt new after → IsAtNode held does (entered_in event.marks) after }
+    ensures told { (l : Limits) (old clients : Clients) (e : Option Event) (t : Turn) (h new : Host) (kind : BookKind)
+        (held after : Holding) (k : ℕ) (name : List ℕ) → HasHistory h.book → (event : Happens h kind new)
+        → TurnsIfAny l old e t → IsByTurn t.does kind → LetsIn l t.clients (entered_in event.marks) clients
+        → AreHoldersAt h held → AreHoldersAt new after → AreDistinct old → AreHeld old held
+        → IsHolder clients k name → HoldsAt new k name }
+{
+    // For the proof: what an event grants and keeps, and what clients make of it.
+    what_is_granted_is_held_until_its_client_leaves();
+    who_holds_a_name_holds_it_by_the_node();
+}
