@@ -1,3 +1,4 @@
 pub mod Pieces
 pub mod Told
 pub mod EventLists
+pub mod LinkedHosts

@@ -5,3 +5,4 @@ pub mod Opening
 pub mod Input
 pub mod Answering
 pub mod Events
+pub mod Returning
