@@ -45,7 +45,7 @@ ONE_LOCK_WORDS = [
     (" width=\"24\" height=\"48\" class=\"touch\"/>", 1),
     (" width=\"24\" height=\"24\" class=\"touch\"/>", 1),
     # The bars are named once, as they belong to one request.
-    (")rotate(90)\" class=\"label\">r X</text>", 1),
+    (")rotate(90)\" class=\"label bar-name\">r X</text>", 1),
     (" defers ", 0),
     (" is queued for ", 0),
     (">copies</text>", 0),
@@ -250,7 +250,7 @@ class Pictures(unittest.TestCase):
             (", sent at line 4, still under way</title>", 1),
             (" waits for r, exclusive, number 1, from line 2 on</title>", 1),
             # A bar that began before has its name at the top.
-            (")rotate(90)\" class=\"label\">r X</text>", 1),
+            (")rotate(90)\" class=\"label bar-name\">r X</text>", 1),
             (" asks for ", 0),
             (" holds ", 0),
         ])

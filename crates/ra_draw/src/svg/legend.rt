@@ -18,6 +18,7 @@ text{font-family:sans-serif;font-size:11px;fill:#222}
 .client{font-size:10px;fill:#555;text-anchor:middle}
 .row{font-size:11px;fill:#555;text-anchor:end}
 .label{font-size:10px;paint-order:stroke;stroke:#fff;stroke-width:3px;stroke-linejoin:round}
+.bar-name{font-size:13px}
 .to-right{text-anchor:start}.to-left{text-anchor:end}.centered{text-anchor:middle}
 .of-request{fill:#0072b2}.of-reply{fill:#333}
 .lane{stroke:#999;stroke-width:1.5}

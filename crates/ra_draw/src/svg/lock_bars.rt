@@ -1,5 +1,5 @@
 //! The bars of clients beside the lanes, and their names.
-use crate::layout::sizes::{COLUMN_WIDTH, WIDE_LETTER};
+use crate::layout::sizes::{BAND_ROWS, COLUMN_WIDTH, WIDE_LETTER};
 use crate::layout::{Layout, LockBar, Point};
 use crate::svg::layers::Layers;
 use crate::svg::svg_writer::PatternValue::{Node, Number, Short, Text, Whole};
@@ -108,28 +108,46 @@ impl Layers {
         }
     }
 
-    /// Writes the name and the mode of a lock along its bar, from the beginning or the top of the page on, if there is
-    /// room.
-    pub fn name_lock_bar(&mut self, layout: &Layout, bar: &LockBar) {
+    /// Writes the name and the mode of a lock along its bar, from one row to another, if there is room.
+    fn name_part_of_bar(&mut self, layout: &Layout, bar: &LockBar, from: u32, to: u32) {
         let span = &bar.span;
         let letters = layout
             .cut
             .letters_of(span.key.name.bytes().len())
             .saturating_add(span.mode.word().len())
             .saturating_add(1);
-        let y = layout.y(span.asked.row);
-        let height = layout.y(bar.end).saturating_sub(y);
-        if layout.is_wide() && (letters as u64).saturating_mul(WIDE_LETTER) <= height {
+        let y = layout.y(from);
+        let height = layout.y(to).saturating_sub(y);
+        if (letters as u64).saturating_mul(WIDE_LETTER) <= height {
             let x = layout.bar_x(bar);
             self.labels.write(
-                "<text transform=\"translate($ $)rotate(90)\" class=\"label\">$ $</text>\n",
+                "<text transform=\"translate($ $)rotate(90)\" class=\"label bar-name\">$ $</text>\n",
                 &[
-                    Number(x.saturating_add(9)),
+                    Number(x.saturating_add(8)),
                     Number(y.saturating_add(4)),
                     Short(&span.key.name, layout.cut),
                     Text(span.mode.word()),
                 ],
             );
+        }
+    }
+
+    /// Writes the name and the mode of a lock along its bar, unless lanes are narrow: from its beginning or the top of
+    /// the page on, and again wherever the nodes are named again.
+    pub fn name_lock_bar(&mut self, layout: &Layout, bar: &LockBar) {
+        if !layout.is_wide() {
+            return;
+        }
+        let mut from = bar.span.asked.row;
+        for _band in 0..=bar.end / BAND_ROWS {
+            let to = (from.saturating_sub(1) / BAND_ROWS)
+                .saturating_add(1)
+                .saturating_mul(BAND_ROWS);
+            self.name_part_of_bar(layout, bar, from, to.min(bar.end));
+            if bar.end <= to {
+                return;
+            }
+            from = to.saturating_add(1);
         }
     }
 
