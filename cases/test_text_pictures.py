@@ -203,6 +203,14 @@ DEADLOCK_WORDS = [
     (" class=\"waiting S\"/>", 1),
 ]
 
+# A mark log of two clients, of whom each goes first for one of two names.
+NOBODY_HOLDS = """\
+request 1 1 a X 1
+request 2 2 b X 1
+request 2 2 a X 2
+request 1 1 b X 2
+"""
+
 
 class Pictures(unittest.TestCase):
     def assert_picture(self, words, given, counts):
@@ -237,8 +245,14 @@ class Pictures(unittest.TestCase):
 
     def test_a_deadlock_is_told_below_the_rows(self):
         self.assert_picture("draw --marks", DEADLOCK_LOG, DEADLOCK_WORDS)
-        # A client that waits for another name, too, may go on with that.
-        self.assert_picture("draw --marks", DEADLOCK_LOG + "request 2 2 c X 1\n", [("Deadlock", 0)])
+        # A client that waits for another name, too, still gives nothing back.
+        self.assert_picture("draw --marks", DEADLOCK_LOG + "request 2 2 c X 1\n", [
+            (">Deadlock: client 1 at node 1 waits for client 2 at node 2</text>", 1),
+            (">which waits for client 1 at node 1</text>", 1),
+            (" class=\"waiting X stuck\"/>", 2),
+        ])
+        # Nobody holds a name, so of each two requests the first is let in.
+        self.assert_picture("draw --marks", NOBODY_HOLDS, [("Deadlock", 0), (" stuck", 0)])
         # Before the last request of the two, nobody waits in a circle.
         self.assert_picture("draw --marks --to 5", DEADLOCK_LOG, [("Deadlock", 0), (" stuck", 0)])
 

@@ -5,7 +5,7 @@ use crate::layout::Layout;
 use crate::layout::sizes::{END_GAP, END_HEIGHT};
 use crate::svg::layers::Layers;
 use crate::svg::svg_writer::PatternValue::{Node, Number, Text, Whole};
-use crate::timeline::{LockStage, OpenLock, OpenLocks};
+use crate::timeline::{LockKey, LockStage, OpenLock, OpenLocks};
 
 /// The most locks that have a line, and the most of a circle.
 const MOST_LINES: usize = 16;
@@ -37,9 +37,8 @@ impl Layers {
         );
     }
 
-    /// Writes whose a lock is.
-    fn put_client(&mut self, before: &'static str, lock: &OpenLock) {
-        let key = &lock.span.key;
+    /// Writes the client of a lock.
+    fn put_client(&mut self, before: &'static str, key: &LockKey) {
         self.labels.write(
             "$client $ at node $",
             &[Text(before), Number(u64::from(key.client)), Node(key.node)],
@@ -49,7 +48,7 @@ impl Layers {
     /// Writes the line of a lock: what its client does with the name and since when, and what it waits for.
     fn put_open_lock(&mut self, open: &OpenLocks, lock: &OpenLock) {
         let span = &lock.span;
-        self.put_client("", lock);
+        self.put_client("", &span.key);
         let (does, since) = match lock.stage {
             LockStage::Holds => (" holds $ ($), number $", span.entered),
             LockStage::Waits => (" waits for $ ($), number $", span.requested),
@@ -66,7 +65,7 @@ impl Layers {
         let since = since.unwrap_or(span.asked);
         self.labels.write(", since line $", &[Number(since.line)]);
         if let Some(blocker) = open.blocker_of(lock) {
-            self.put_client(": ", &blocker);
+            self.put_client(": ", &blocker.span.key);
             self.labels.write(
                 match blocker.stage {
                     LockStage::Holds => " holds it",
@@ -103,13 +102,13 @@ impl Layers {
             } else {
                 0
             };
-            let (Some(lock), Some(other)) = (circle.get(place), circle.get(next)) else {
+            let (Some(key), Some(other)) = (circle.get(place), circle.get(next)) else {
                 break;
             };
             let line = lines.saturating_add(place).saturating_add(2);
             self.begin_end_line(layout, line as u64, "end stuck-text");
             if place == 0 {
-                self.put_client("Deadlock: ", lock);
+                self.put_client("Deadlock: ", key);
             } else {
                 self.labels.put(b"which");
             }
