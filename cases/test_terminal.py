@@ -20,14 +20,14 @@ TYPED = [
 # Commands, the name of a text that is typed, and what the command says that it waits for.
 WAITING = [
     ("answer --node 1 --nodes 2", "REPLY", "a frame from standard input: type its digits and Enter, then Ctrl-D"),
-    ("sim", "ONE_CLIENT", "a script from standard input: type it and then Ctrl-D, or redirect a file with < FILE"),
-    ("cluster", "ONE_CLIENT", "a script from standard input: type it and then Ctrl-D, or redirect a file with < FILE"),
-    ("check", "ONE_CLIENT_TRACE", "a trace from standard input: type it and then Ctrl-D, or redirect a file with < FILE"),
-    ("draw", "ONE_CLIENT_TRACE", "a trace from standard input: type it and then Ctrl-D, or redirect a file with < FILE"),
-    ("check --marks", "ONE_TURN_LOG", "a mark log from standard input: type it and then Ctrl-D, or redirect a file with < FILE"),
-    ("draw --marks", "ONE_TURN_LOG", "a mark log from standard input: type it and then Ctrl-D, or redirect a file with < FILE"),
+    ("sim", "ONE_CLIENT", "a script from standard input: type it and then Ctrl-D, or name a file"),
+    ("cluster", "ONE_CLIENT", "a script from standard input: type it and then Ctrl-D, or name a file"),
+    ("check", "ONE_CLIENT_TRACE", "a trace from standard input: type it and then Ctrl-D, or name a file"),
+    ("draw", "ONE_CLIENT_TRACE", "a trace from standard input: type it and then Ctrl-D, or name a file"),
+    ("check --marks", "ONE_TURN_LOG", "a mark log from standard input: type it and then Ctrl-D, or name a file"),
+    ("draw --marks", "ONE_TURN_LOG", "a mark log from standard input: type it and then Ctrl-D, or name a file"),
     ("node", "A_BOOK", "a book from standard input: type its lines, and Ctrl-D at the end"),
-    ("settle", "A_BOOK", "books from standard input: redirect a file with < FILE, or several with cat FILE .. |"),
+    ("settle", "A_BOOK", "books from standard input: name their files, as in ra settle FILE .."),
 ]
 
 

@@ -11,14 +11,24 @@ use ra_arguments::{
     STATUS_HELP, SUMMARY_HELP, Task, read_command_line,
 };
 use ra_cli::{CommandFault, do_alone, refuse_arguments, run_by_threads};
+use ra_files::ReadsInputs;
 use ra_notes::{
-    NoteSource, Progress, RecordingReader, RecordingWriter, write_arguments_note,
+    Inputs, NoteSource, Progress, RecordingReader, RecordingWriter, write_arguments_note,
     write_output_note, write_waiting_note,
 };
 use std::alloc::Global;
 use std::io::{BufRead, Write};
 use std::sync::Wait;
 use std::thread::Threads;
+
+/// What is known of the input before it is read.
+#[derive(Clone, Copy)]
+pub struct GivenInput<'a> {
+    /// The names of the files that the reader gives, one after the other.
+    pub files: &'a [&'a str],
+    /// Whether standard input is read, and is a terminal.
+    pub at_terminal: bool,
+}
 
 /// Does as [`refuse_arguments`], and then writes a line for a person to `notes`. It writes another if `writer` failed,
 /// unless that is a pipe that is not read any more. A failure of `notes` changes nothing else.
@@ -49,17 +59,17 @@ pub fn refuse_arguments_with_note<W: Write, N: Write>(
 ///   leaves names locked, and for the seed of a run that was found.
 /// - There is a line if `writer` failed, unless that is a pipe that is no longer read.
 ///
-/// If the input is at a terminal, the first line says what the command waits for. While many seeds take long, or a text is
-/// followed, it writes there how far it is. Of a text that is followed only what is open is kept for the note. Each line begins with `ra: `. No note goes to `writer`, and a note is left out if memory or
-/// `notes` fails, which changes nothing else. To find the place in a script, it is read again. To find which client
-/// waits for which, it is run again, and shrunk again if it was. For the mark that is due, a trace that was to be drawn
-/// is checked again. For what was withdrawn, books in which a client gives up are settled again, if they have at most
-/// 16,777,216 bytes.
-pub fn serve_with_notes<T: Threads + Wait + Sync, R: BufRead, W: Write, N: Write>(
+/// If the input is at a terminal, the first line says what the command waits for. While many seeds take long, or a text
+/// is followed, it writes there how far it is. Of a text that is followed only what is open is kept for the note. Each
+/// line begins with `ra: `. No note goes to `writer`, and a note is left out if memory or `notes` fails, which changes
+/// nothing else. To find the place in a script, it is read again. To find which client waits for which, it is run again,
+/// and shrunk again if it was. For the mark that is due, a trace that was to be drawn is checked again. For what was
+/// withdrawn, books in which a client gives up are settled again, if they have at most 16,777,216 bytes.
+pub fn serve_with_notes<T: Threads + Wait + Sync, R: BufRead + ReadsInputs, W: Write, N: Write>(
     rt: &T,
     alloc: Global,
     arguments: &[String],
-    at_terminal: bool,
+    given: GivenInput<'_>,
     reader: &mut RecordingReader<R>,
     writer: &mut RecordingWriter<W>,
     notes: &mut N,
@@ -73,7 +83,7 @@ pub fn serve_with_notes<T: Threads + Wait + Sync, R: BufRead, W: Write, N: Write
 {
     let line = read_command_line(alloc, arguments);
     let asked = &line.asked;
-    if at_terminal {
+    if given.at_terminal {
         write_waiting_note(asked, notes);
     }
     let mut progress = Progress::new(alloc, notes);
@@ -92,7 +102,10 @@ pub fn serve_with_notes<T: Threads + Wait + Sync, R: BufRead, W: Write, N: Write
         last_seed,
         followed: &followed,
         seen: reader.recorded().bytes(),
-        is_folder: reader.recorded().is_folder(),
+        inputs: Inputs {
+            files: given.files,
+            places: reader.places(),
+        },
         text: &text,
     };
     write_notes(alloc, &source, &outcome, notes);

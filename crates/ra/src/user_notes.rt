@@ -27,7 +27,7 @@ pub fn write_notes<N: Write>(
         Some(Remark::Unfinished) if source.asked.shrinks() => {
             write_shrunk_notes(alloc, source, notes);
         }
-        Some(remark) => notice_of(alloc, source, *remark).write(notes),
+        Some(remark) => notice_of(alloc, source, *remark).write(source, notes),
         None => {}
     }
     if outcome.ran_to_end() {
@@ -73,15 +73,15 @@ fn refusal_of(alloc: Global, source: &NoteSource<'_>, refusal: CommandRefusal) -
         (CommandRefusal::Cluster(why) | CommandRefusal::Survey(why), _) => {
             of_script_run(alloc, source, why)
         }
-        (CommandRefusal::Settle(why), _) => of_settling(source, why),
-        (CommandRefusal::Node(why), _) => of_book(source, why),
+        (CommandRefusal::Settle(why), _) => of_settling(why),
+        (CommandRefusal::Node(why), _) => of_book(why),
     }
 }
 
 /// Returns what there is to say about a script that was not run, by threads or under many seeds.
 fn of_script_run(alloc: Global, source: &NoteSource<'_>, why: RunScriptError) -> Notice {
     match why {
-        RunScriptError::Read => source.no_input(),
+        RunScriptError::Read => Notice::Unread,
         RunScriptError::Script(_) => script_notice(alloc, source.seen),
         RunScriptError::Cluster(fault) => cluster_notice(alloc, source.seen, fault),
         RunScriptError::Choice => Notice::Text(NO_WORD),
@@ -90,22 +90,22 @@ fn of_script_run(alloc: Global, source: &NoteSource<'_>, why: RunScriptError) ->
 }
 
 /// Returns what there is to say about books that were not settled.
-fn of_settling(source: &NoteSource<'_>, why: SettleFault) -> Notice {
+fn of_settling(why: SettleFault) -> Notice {
     match why {
-        SettleFault::Read => source.no_input(),
-        SettleFault::Limit => Notice::Text(BOOKS_TOO_LONG),
+        SettleFault::Read => Notice::Unread,
+        SettleFault::Limit => Notice::Input(BOOKS_TOO_LONG),
         SettleFault::Memory => Notice::Text(NO_MEMORY),
     }
 }
 
 /// Returns what there is to say about a book that was not answered.
-fn of_book(source: &NoteSource<'_>, why: BookFault) -> Notice {
+fn of_book(why: BookFault) -> Notice {
     match why {
         BookFault::Line => Notice::Line {
             line: 1,
             text: NO_BOOK,
         },
-        BookFault::Read => source.no_input(),
+        BookFault::Read => Notice::Unread,
         BookFault::Write => Notice::Nothing,
     }
 }
@@ -121,7 +121,7 @@ fn of_answer(
     let cause = match why {
         AnswerError::BadCount => return range_note(alloc, "--nodes", nodes, NodeId::MAX),
         AnswerError::BadNode => return range_note(alloc, "--node", node, nodes),
-        AnswerError::Read => return source.no_input(),
+        AnswerError::Read => return Notice::Unread,
         AnswerError::Memory => return Notice::Text(NO_MEMORY),
         AnswerError::Write => return Notice::Nothing,
         AnswerError::Line | AnswerError::Hex => FrameCause::Digits,

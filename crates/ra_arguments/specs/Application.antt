@@ -38,6 +38,10 @@ with_default rule text = record rule { defaults = text ∷ [] }
 abbrev pub required : Rule → Rule
 required rule = record rule { required = true }
 
+-- `--quiet`, and `-q` (113)
+abbrev pub quiet_option : Rule
+quiet_option = record (flag (codes "quiet")) { short = Some 113 }
+
 -- `--help`, and `-h` (104)
 abbrev pub help_option : Rule
 help_option = record (flag (codes "help")) { short = Some 104; action = Some action.Help }
@@ -66,7 +70,7 @@ ending_words = codes "finished" ∷ codes "stuck" ∷ []
 
 abbrev pub answer_options : List Rule
 answer_options = required (option (codes "node") short_numbers) ∷ required (option (codes "nodes") short_numbers)
-    ∷ help_option ∷ []
+    ∷ quiet_option ∷ help_option ∷ []
 
 -- the options of `sim`, with the words for policies and for ends of runs
 abbrev pub sim_options : (policies endings : WordList) → List Rule
@@ -79,17 +83,17 @@ sim_options policies endings =
     ∷ option (codes "seeds") takes.String
     ∷ option (codes "find") (takes.Names endings)
     ∷ flag (codes "trace") ∷ flag (codes "sends")
-    ∷ flag (codes "as-choices") ∷ flag (codes "shrink") ∷ flag (codes "state") ∷ flag (codes "json") ∷ help_option ∷ []
+    ∷ flag (codes "as-choices") ∷ flag (codes "shrink") ∷ flag (codes "state") ∷ flag (codes "json") ∷ quiet_option ∷ help_option ∷ []
 
 abbrev pub cluster_options : List Rule
-cluster_options = flag (codes "trace") ∷ flag (codes "books") ∷ help_option ∷ []
+cluster_options = flag (codes "trace") ∷ flag (codes "books") ∷ quiet_option ∷ help_option ∷ []
 
 abbrev pub check_options : List Rule
 check_options =
     flag (codes "marks") ∷ flag (codes "complete") ∷ flag (codes "follow")
     ∷ with_default (option (codes "every") long_numbers) (codes "0")
     ∷ flag (codes "json")
-    ∷ help_option ∷ []
+    ∷ quiet_option ∷ help_option ∷ []
 
 -- the last line of a drawing is by default the last of any input
 abbrev pub draw_options : List Rule
@@ -97,13 +101,13 @@ draw_options =
     flag (codes "marks")
     ∷ with_default (option (codes "from") long_numbers) (codes "1")
     ∷ with_default (option (codes "to") long_numbers) (codes "18446744073709551615")
-    ∷ help_option ∷ []
+    ∷ quiet_option ∷ help_option ∷ []
 
 abbrev pub node_options : List Rule
-node_options = help_option ∷ []
+node_options = quiet_option ∷ help_option ∷ []
 
 abbrev pub settle_options : List Rule
-settle_options = flag (codes "repeats") ∷ flag (codes "trace") ∷ flag (codes "json") ∷ help_option ∷ []
+settle_options = flag (codes "repeats") ∷ flag (codes "trace") ∷ flag (codes "json") ∷ quiet_option ∷ help_option ∷ []
 
 -- a command with these options; its help is one of them
 abbrev pub command : Text → List Rule → Shape

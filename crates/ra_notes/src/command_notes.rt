@@ -135,9 +135,9 @@ fn first_no_choice(alloc: Global, text: &str) -> Option<&str> {
 }
 
 /// Returns what there is to say about a script that is not performed.
-pub fn of_performance(source: &NoteSource<'_>, why: PerformError) -> Notice {
+pub fn of_performance(why: PerformError) -> Notice {
     Notice::Text(match why {
-        PerformError::Read => return source.no_input(),
+        PerformError::Read => return Notice::Unread,
         PerformError::Drive(DriveError::TurnLimit) => TOO_MANY_TURNS,
         PerformError::Script(_) | PerformError::Drive(_) => UNEXPLAINED,
         PerformError::Choice => NO_WORD,
@@ -148,38 +148,40 @@ pub fn of_performance(source: &NoteSource<'_>, why: PerformError) -> Notice {
 
 /// Returns what there is to say about a text that has no verdict.
 pub fn of_check(source: &NoteSource<'_>, why: TraceError) -> Notice {
-    Notice::Text(match why {
-        TraceError::Read => return source.no_input(),
-        TraceError::Limit => match source.asked {
+    match why {
+        TraceError::Read => Notice::Unread,
+        TraceError::Limit => Notice::Input(match source.asked {
             Command::Task(Task::CheckMarks { .. }) => LOG_TOO_LONG,
             _ => TOO_MANY_BYTES,
-        },
-        TraceError::Memory => NO_MEMORY,
-    })
+        }),
+        TraceError::Memory => Notice::Text(NO_MEMORY),
+    }
 }
 
 /// Returns what to say about a part without lines, if the input has this many.
-fn of_part(alloc: Global, asked: &Command<'_>, lines: u64) -> Notice {
+fn of_part(alloc: Global, source: &NoteSource<'_>, lines: u64) -> Notice {
     let mut note = Note::new(alloc);
-    match asked {
+    match source.asked {
         Command::Task(Task::Draw { part, .. }) if lines > 0 => {
             push_numbered(&mut note, "--from is ", part.from);
         }
         _ => note.push("there is nothing to draw"),
     }
     let unit = if lines == 1 { " line" } else { " lines" };
-    push_number_in(&mut note, ": standard input has ", lines, unit);
+    note.push(": ");
+    note.push(source.inputs.name());
+    push_number_in(&mut note, " has ", lines, unit);
     Notice::of(note)
 }
 
 /// Returns what there is to say about an input that is not drawn.
 pub fn of_drawing(alloc: Global, source: &NoteSource<'_>, why: DrawError) -> Notice {
-    Notice::Text(match why {
-        DrawError::Read => return source.no_input(),
-        DrawError::Limit => TOO_MANY_BYTES,
-        DrawError::NoLines { lines } => return of_part(alloc, source.asked, lines),
-        DrawError::TooLong => TOO_LONG,
-        DrawError::Memory => NO_MEMORY,
-        DrawError::Write => return Notice::Nothing,
-    })
+    match why {
+        DrawError::Read => Notice::Unread,
+        DrawError::Limit => Notice::Input(TOO_MANY_BYTES),
+        DrawError::NoLines { lines } => of_part(alloc, source, lines),
+        DrawError::TooLong => Notice::Input(TOO_LONG),
+        DrawError::Memory => Notice::Text(NO_MEMORY),
+        DrawError::Write => Notice::Nothing,
+    }
 }

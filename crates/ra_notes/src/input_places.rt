@@ -56,11 +56,8 @@ pub fn perform_notice(alloc: Global, source: &NoteSource<'_>, why: PerformError)
             ),
             Some(script),
             PerformError::Drive(_),
-        ) => placed(
-            choices_note(alloc, script, choices),
-            of_performance(source, why),
-        ),
-        _ => of_performance(source, why),
+        ) => placed(choices_note(alloc, script, choices), of_performance(why)),
+        _ => of_performance(why),
     }
 }
 
@@ -185,7 +182,7 @@ pub fn trace_notice(
     due: Option<Line>,
 ) -> Notice {
     if is_empty(text) {
-        return Notice::Text(EMPTY_TRACE);
+        return Notice::Input(EMPTY_TRACE);
     }
     let why = cause_in(alloc, text, cause, due);
     line_notice(alloc, text, line, why, cause_text(cause))
@@ -204,7 +201,7 @@ pub fn log_notice(alloc: Global, source: &NoteSource<'_>, line: u64, cause: Mark
 /// Returns what there is to say about a text of books that does not settle, by its wrong line.
 pub fn unsettled_notice(alloc: Global, books: &[u8], line: u64, cause: TextCause) -> Notice {
     if books.is_empty() {
-        return Notice::Text(NO_BOOKS);
+        return Notice::Input(NO_BOOKS);
     }
     let text = text_cause_text(cause);
     placed(

@@ -3,9 +3,9 @@
 
 mod book_openings;
 mod command_notes;
-mod end_reader;
 mod given_options;
 mod input_places;
+mod inputs;
 mod note_source;
 mod note_texts;
 mod notice;
@@ -20,6 +20,7 @@ mod script_notes;
 mod seed_progress;
 mod settle_notes;
 mod settled_notes;
+mod unread_note;
 mod unused_options;
 mod usage_notes;
 mod waiting_note;
@@ -28,11 +29,11 @@ pub use command_notes::{
     of_check, of_choices, of_command, of_drawing, of_end, range_note, write_arguments_note,
     write_output_note,
 };
-pub use end_reader::EndReader;
 pub use input_places::{
     FrameCause, cluster_notice, frame_notice, log_notice, perform_notice, script_notice,
     trace_notice, unfinished_notice, unsettled_notice,
 };
+pub use inputs::Inputs;
 pub use note_source::{JudgedText, NoteSource};
 pub use note_texts::{BOOKS_TOO_LONG, NO_BOOK, NO_SEED_DONE, NO_WORD, SEEDS_LEFT};
 pub use notice::{NO_MEMORY, Notice, write_line};

@@ -1,6 +1,5 @@
 //! What notes are made of, besides the outcome of the command.
-use crate::note_texts::{FOLDER_INPUT, NO_INPUT};
-use crate::notice::Notice;
+use crate::inputs::Inputs;
 use crate::progress::FollowedText;
 use ra_arguments::{Command, Task, UsageFault};
 
@@ -19,8 +18,8 @@ pub struct NoteSource<'a> {
     pub text: &'a [u8],
     /// What is kept of a text that was followed.
     pub followed: &'a FollowedText,
-    /// Whether the input is a folder, which cannot be read.
-    pub is_folder: bool,
+    /// What was read, by its files and lines.
+    pub inputs: Inputs<'a>,
     /// The last seed of a survey that was tried.
     pub last_seed: Option<u64>,
 }
@@ -35,15 +34,6 @@ pub enum JudgedText<'a> {
 }
 
 impl<'a> NoteSource<'a> {
-    /// Returns what there is to say if the reader failed.
-    pub fn no_input(&self) -> Notice {
-        Notice::Text(if self.is_folder {
-            FOLDER_INPUT
-        } else {
-            NO_INPUT
-        })
-    }
-
     /// Returns the text that was checked or was to be drawn.
     pub fn judged_text(&self) -> JudgedText<'a> {
         match self.asked {

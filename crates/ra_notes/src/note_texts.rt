@@ -8,9 +8,6 @@ use ra_trace::{Cause, MarkCause};
 /// does.
 pub const UNEXPLAINED: &str = "standard output says what came of it; no memory is left to say more";
 
-/// What is said if the reader failed.
-pub const NO_INPUT: &str = "cannot read standard input";
-
 /// What is said if the writer failed.
 pub const NO_OUTPUT: &str = "cannot write to standard output";
 
@@ -27,28 +24,24 @@ pub const NO_WORD: &str = "the choices of this run cannot be written: one repeat
 pub const LEFT_IN_TRACE: &str =
     "not complete: no request was made, or something waits, holds, is queued or under way at the end";
 
-/// What is said if a trace or a mark log is too long.
-pub const TOO_MANY_BYTES: &str = "standard input has more than 16777216 bytes";
+/// What is said of an input that is too long for a trace or a mark log.
+pub const TOO_MANY_BYTES: &str = "has more than 16777216 bytes";
 
-/// What is said if a mark log is too long that was to be checked.
+/// What is said of an input that is too long for a mark log that was to be checked.
 pub const LOG_TOO_LONG: &str =
-    "standard input has more than 16777216 bytes: split the log by its names, since each name is judged by its own marks";
+    "has more than 16777216 bytes: split the log by its names, since each name is judged by its own marks";
 
-/// What is said if standard input is a folder.
-pub const FOLDER_INPUT: &str = "cannot read standard input: it is a folder, and a file is expected";
+/// What is said of an input that is too long for books.
+pub const BOOKS_TOO_LONG: &str = "has more than 1073741824 bytes";
 
-/// What is said if a text of books is too long.
-pub const BOOKS_TOO_LONG: &str = "standard input has more than 1073741824 bytes";
-
-/// What is said if too many lines are to be drawn.
-pub const TOO_LONG: &str =
-    "standard input has more than 4096 lines to draw: choose a part with --from and --to";
+/// What is said of an input of which too many lines are to be drawn.
+pub const TOO_LONG: &str = "has more than 4096 lines to draw: choose a part with --from and --to";
 
 /// What is said of an input without a byte that has to be a trace.
-pub const EMPTY_TRACE: &str = "standard input is empty: expected a trace";
+pub const EMPTY_TRACE: &str = "is empty: expected a trace";
 
 /// What is said of an input without a byte that has to be books.
-pub const NO_BOOKS: &str = "standard input is empty: expected one book of each node";
+pub const NO_BOOKS: &str = "is empty: expected one book of each node";
 
 /// What is said of a line that has a carriage return before its line feed.
 pub const HAS_RETURN: &str =

@@ -2,6 +2,7 @@
 ghost use Rattle.std.specs.Prelude.{◌≡◌};
 
 use crate::given_options::is_given;
+use ra_files::{InputPlaces, ReadsInputs};
 use ra_script::MAX_SCRIPT;
 use ra_trace::{MAX_LINE, MAX_TEXT};
 use std::alloc::Global;
@@ -19,8 +20,6 @@ pub struct RecordedInput {
     taken: usize,
     /// Whether they are to be remembered, and there was memory for them.
     is_whole: bool,
-    /// Whether the reader failed since it reads a folder.
-    is_folder: bool,
 }
 
 impl RecordedInput {
@@ -40,16 +39,6 @@ impl RecordedInput {
         } else {
             None
         }
-    }
-
-    /// Returns whether the reader failed since it reads a folder.
-    pub fn is_folder(&self) -> bool {
-        self.is_folder
-    }
-
-    /// Remembers how the reader failed.
-    fn fail(&mut self, error: &io::Error) {
-        self.is_folder = error.kind() == io::ErrorKind::IsADirectory;
     }
 
     /// Returns how many bytes are known that were shown and not read yet.
@@ -107,7 +96,21 @@ impl<R> RecordingReader<R> {
                 most,
                 taken: 0,
                 is_whole: most > 0,
-                is_folder: false,
+            },
+        }
+    }
+
+    /// Makes one of a reader that remembers nothing. It does not allocate, and neither do reads that follow.
+    pub fn forgetful(alloc: Global, inner: R) -> RecordingReader<R>
+        ensures { result.inner ≡ inner }
+    {
+        RecordingReader {
+            inner,
+            recorded: RecordedInput {
+                bytes: Vec::new(alloc),
+                most: 0,
+                taken: 0,
+                is_whole: false,
             },
         }
     }
@@ -123,12 +126,9 @@ impl<R: Read> Read for RecordingReader<R> {
 
     fn read(&mut self, buf: &mut [u8]) -> io::Result<usize> {
         let read = self.inner.read(buf);
-        match &read {
-            Ok(count) => {
-                self.recorded.show(&buf[..*count]);
-                self.recorded.take(*count);
-            }
-            Err(error) => self.recorded.fail(error),
+        if let Ok(count) = &read {
+            self.recorded.show(&buf[..*count]);
+            self.recorded.take(*count);
         }
         read
     }
@@ -141,13 +141,7 @@ impl<R: BufRead> BufRead for RecordingReader<R> {
     fn fill_buf(&mut self) -> io::Result<&[u8]> {
         // Until all that was shown is read, a reader with a buffer shows the same, as for most lines.
         if self.recorded.ahead() == 0 {
-            let shown = match self.inner.fill_buf() {
-                Ok(shown) => shown,
-                Err(error) => {
-                    self.recorded.fail(&error);
-                    return Err(error);
-                }
-            };
+            let shown = self.inner.fill_buf()?;
             self.recorded.show(shown);
             if shown.is_empty() {
                 return Ok(b"");
@@ -160,5 +154,11 @@ impl<R: BufRead> BufRead for RecordingReader<R> {
     fn consume(&mut self, amount: usize) {
         self.recorded.take(amount);
         self.inner.consume(amount);
+    }
+}
+
+impl<R: ReadsInputs> ReadsInputs for RecordingReader<R> {
+    fn places(&self) -> &InputPlaces {
+        self.inner.places()
     }
 }

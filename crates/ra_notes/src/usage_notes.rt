@@ -1,6 +1,5 @@
 //! What is said of arguments that are not a command line, on one line. The parser's error has a kind and a text, and
 //! nothing more: the option, the value and the nearest word are only in the text, so they are cut out of it.
-use crate::given_options::is_given;
 use crate::notice::Notice;
 use clap::Error as ParseError;
 use clap::error::ErrorKind;
@@ -8,9 +7,6 @@ use ra_arguments::{UsageCause, UsageFault, command_named, command_near, values_o
 use ra_schedule::read_choices;
 use ra_text::Note;
 use std::alloc::Global;
-
-/// The word that other programs take for a command that prints help.
-const HELP: &str = "help";
 
 /// Returns an option that takes a value, with the argument after it, if the parser takes that argument for an option
 /// though it is not one, such as a negative number. Otherwise returns `None`.
@@ -104,14 +100,10 @@ fn push_said(note: &mut Note, said: &str) {
     }
 }
 
-/// Adds where to read more. The word after `help` names a command, too.
+/// Adds where to read more.
 fn push_see(note: &mut Note, arguments: &[String]) {
     note.push("; see ra ");
-    let named = match arguments {
-        [_, word, ..] if word.as_str() == HELP => command_named(&arguments[1..]),
-        _ => command_named(arguments),
-    };
-    if let Some(name) = named {
+    if let Some(name) = command_named(arguments) {
         note.push(name);
         note.push(" ");
     }
@@ -138,30 +130,14 @@ fn push_near(note: &mut Note, said: &str) {
     }
 }
 
-/// Adds what the parser says, or which numbers an option takes, and what an unexpected argument may be that is not an
-/// option: one of the choices, which are one argument, or a file. An unknown command may be nearly a known one.
-fn push_parsed(alloc: Global, note: &mut Note, arguments: &[String], said: &str) {
+/// Adds what the parser says, or which numbers an option takes. An unknown command may be nearly a known one.
+fn push_parsed(note: &mut Note, arguments: &[String], said: &str) {
     if push_value(note, arguments, said) {
         return;
     }
     push_said(note, said);
-    let Some(name) = command_named(arguments) else {
+    if command_named(arguments).is_none() {
         push_near(note, said);
-        return;
-    };
-    let Some((argument, _)) = between(said, "unexpected argument '", "' found") else {
-        return;
-    };
-    if argument.starts_with('-') || argument == HELP {
-        return;
-    }
-    if is_given(arguments, "choices") && is_choice(alloc, argument) {
-        note.push("; all choices are one argument: quote them, as in --choices \"c1 m0\"");
-    } else {
-        note.push("; to read a file, run ra ");
-        note.push(name);
-        note.push(" < ");
-        note.shown(argument);
     }
 }
 
@@ -176,7 +152,7 @@ fn push_error(alloc: Global, note: &mut Note, arguments: &[String], error: &Pars
         return;
     }
     match format!(in alloc; "{error}") {
-        Ok(said) => push_parsed(alloc, note, arguments, said.as_str()),
+        Ok(said) => push_parsed(note, arguments, said.as_str()),
         Err(_) => note.refuse_if(true),
     }
 }

@@ -10,11 +10,11 @@ pub fn write_waiting_note<N: Write>(asked: &Command<'_>, notes: &mut N) {
         Command::Node =>
             "reading a book from standard input: type its lines, and Ctrl-D at the end",
         Command::Settle(_) =>
-            "reading books from standard input: redirect a file with < FILE, or several with cat FILE .. |",
+            "reading books from standard input: name their files, as in ra settle FILE ..",
         Command::Task(Task::Answer { .. }) =>
             "reading a frame from standard input: type its digits and Enter, then Ctrl-D",
         Command::Task(Task::Sim { .. } | Task::Survey(_) | Task::Cluster(_)) =>
-            "reading a script from standard input: type it and then Ctrl-D, or redirect a file with < FILE",
+            "reading a script from standard input: type it and then Ctrl-D, or name a file",
         Command::Task(
             Task::Check { .. }
             | Task::Follow {
@@ -25,8 +25,7 @@ pub fn write_waiting_note<N: Write>(asked: &Command<'_>, notes: &mut N) {
                 kind: InputKind::Trace,
                 ..
             },
-        ) =>
-            "reading a trace from standard input: type it and then Ctrl-D, or redirect a file with < FILE",
+        ) => "reading a trace from standard input: type it and then Ctrl-D, or name a file",
         Command::Task(
             Task::CheckMarks { .. }
             | Task::Follow {
@@ -37,8 +36,7 @@ pub fn write_waiting_note<N: Write>(asked: &Command<'_>, notes: &mut N) {
                 kind: InputKind::Marks,
                 ..
             },
-        ) =>
-            "reading a mark log from standard input: type it and then Ctrl-D, or redirect a file with < FILE",
+        ) => "reading a mark log from standard input: type it and then Ctrl-D, or name a file",
         Command::Task(Task::Help(_)) | Command::Unknown(_) => return,
     };
     write_line(notes, text);

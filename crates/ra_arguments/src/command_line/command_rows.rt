@@ -26,12 +26,18 @@ pub enum CommandKind {
     Settle,
 }
 
-/// A command, its name, and what its help says first.
+/// What the help of each command says of `FILE`.
+const FILES: &str = "\
+FILE is read in place of standard input. Several are read one after the other,
+as one text, and - is standard input.";
+
+/// A command, its name, what its help says first, and how its arguments are written.
 #[derive(Clone, Copy)]
 pub struct CommandRow<'a> {
     pub kind: CommandKind,
     name: &'a str,
     about: &'a str,
+    usage: &'a str,
 }
 
 /// The commands, in the order of help.
@@ -40,36 +46,43 @@ const COMMANDS: &[CommandRow] = &[
         kind: CommandKind::Answer,
         name: "answer",
         about: "Answer one frame, in hexadecimal digits, as an idle node would",
+        usage: "ra answer [OPTIONS] --node <node> --nodes <nodes> [FILE]...",
     },
     CommandRow {
         kind: CommandKind::Sim,
         name: "sim",
         about: "Run a script in a simulated cluster: who asks, enters and leaves",
+        usage: "ra sim [OPTIONS] [FILE]...",
     },
     CommandRow {
         kind: CommandKind::Cluster,
         name: "cluster",
         about: "Run a script in a cluster of threads: who asks, enters and leaves",
+        usage: "ra cluster [OPTIONS] [FILE]...",
     },
     CommandRow {
         kind: CommandKind::Check,
         name: "check",
         about: "Check the trace of a run, or the mark log of a lock service",
+        usage: "ra check [OPTIONS] [FILE]...",
     },
     CommandRow {
         kind: CommandKind::Draw,
         name: "draw",
         about: "Draw the trace of a run, or a mark log, as an SVG file",
+        usage: "ra draw [OPTIONS] [FILE]...",
     },
     CommandRow {
         kind: CommandKind::Node,
         name: "node",
         about: "Be one node: read what happens at it, and answer line by line",
+        usage: "ra node [OPTIONS] [FILE]...",
     },
     CommandRow {
         kind: CommandKind::Settle,
         name: "settle",
         about: "Settle the books of all nodes into one run of the cluster",
+        usage: "ra settle [OPTIONS] [FILE]...",
     },
 ];
 
@@ -134,6 +147,8 @@ fn command_of<'a>(alloc: Global, row: &CommandRow<'a>) -> Result<Command<'a>, Al
 {
     let mut command = Command::new(alloc, row.name)
         .about(row.about)
+        .override_usage(row.usage)
+        .after_help(FILES)
         .disable_help_flag(true);
     for option in options_of(row.kind) {
         command = command.arg(option_of(alloc, option))?;

@@ -7,10 +7,9 @@ use crate::command_line::command_rows::{CommandKind, row_named};
 
 /// The help of the command `answer`, below its options.
 pub const ANSWER_HELP: &str = "\
-Read one frame of version 1 or 2 from standard input, as a line of hexadecimal
-digits, and print the frames with which the node answers, in version 2, one per
-line. The node is idle: it has seen no sequence number, and its event clock is
-0.
+Read one frame of version 1 or 2, as a line of hexadecimal digits, and print the
+frames with which the node answers, in version 2, one per line. The node is
+idle: it has seen no sequence number, and its event clock is 0.
 
 Modes, and their bytes in a frame (version 1 has only the first two):
   S    00  shared
@@ -25,15 +24,15 @@ Example: node 2 of 3 answers a version 1 REQUEST of node 1 for the name r.
 
 Exit status:
   0  the frame was answered
-  1  standard input or standard output failed
+  1  the input or standard output failed
   2  the command line or the frame was refused";
 
 /// The help of the command `sim`, below its options.
 pub const SIM_HELP: &str = "\
-Read a script from standard input. A script is a TOML document with the number
-of nodes, 1 to 64, and with 1 to 64 clients. Each client has a node and at most
-1024 operations, which it does in order: `X r` locks the name r in mode X, and
-`U r` unlocks it. A name is 1 to 32 characters from A-Z, a-z, 0-9, _, - and .
+Read a script. A script is a TOML document with the number of nodes, 1 to 64,
+and with 1 to 64 clients. Each client has a node and at most 1024 operations,
+which it does in order: `X r` locks the name r in mode X, and `U r` unlocks it.
+A name is 1 to 32 characters from A-Z, a-z, 0-9, _, - and .
   nodes = 2
   client = [{ node = 1, ops = [\"X r\", \"U r\"] },
             { node = 2, ops = [\"S r\", \"U r\"] }]
@@ -64,28 +63,28 @@ Policies, which choose each step:
 
 --trace prints the steps of the run, each with its marks, as `ra check` reads
 them. With --sends, it prints the messages that each step sends, too.
-Example: ra sim --trace < script.toml | ra check
+Example: ra sim --trace script.toml | ra check
 
 --as-choices prints the choices of the run, by which --policy listed repeats it,
 so that you can edit them. A repeated message cannot be written as a choice, so
 faulty needs --repeat 0 here.
-Example: ra sim --policy seeded --seed 7 --as-choices < script.toml
+Example: ra sim --policy seeded --seed 7 --as-choices script.toml
 
 --state prints the state at the end of the run: what each node knows of each
 name, the messages under way with the places that --choices takes, what each
 client is at, and which requests wait and hold.
-Example: ra sim --policy listed --choices \"c1 m0\" --state < script.toml
+Example: ra sim --policy listed --choices \"c1 m0\" --state script.toml
 
 --seeds A..B runs the script under seeded or faulty with each seed from A to B,
 0 <= A <= B < 2^64. It prints how many runs ended finished and stuck, the first
 seed of each, and the least and the most turns and messages of a run.
-Example: ra sim --policy seeded --seeds 1..1000 < script.toml
+Example: ra sim --policy seeded --seeds 1..1000 script.toml
 
 --find finished or --find stuck prints the trace of the first of these runs that
 ends so or, with --as-choices, its choices, and tries no seed after it; if there
 is none, it prints `none`. With --shrink, --find stuck prints the choices of a
 shorter run.
-Example: ra sim --policy seeded --seeds 1..1000 --find stuck < script.toml
+Example: ra sim --policy seeded --seeds 1..1000 --find stuck script.toml
 
 --shrink prints the choices of a shorter run that is stuck, too: no client that
 has begun can go on, nothing is under way, and some client waits. One step after
@@ -93,20 +92,20 @@ the other is left out, with all that the client does after it, as long as the
 others, done again, get stuck in fewer steps. If the run is not stuck, it prints
 `none`. With --seeds it needs --find stuck, and shrinks the run that is found.
 Like --as-choices, it needs --repeat 0 under faulty.
-Example: ra sim --policy seeded --seed 7 --shrink < script.toml
+Example: ra sim --policy seeded --seed 7 --shrink script.toml
 
 Exit status:
   0  every run finished: all operations are done, and nothing waits, is queued
      or is under way. With --find: the printed run finished, or --find stuck
      found none
-  1  standard input or standard output failed
+  1  the input or standard output failed
   2  the command line or the script was refused
   3  a run did not finish, or --find finished found none";
 
 /// The help of the command `check`, below its options.
 pub const CHECK_HELP: &str = "\
-Read a trace from standard input: the steps of a run, one per line, each with
-its marks on the lines after it.
+Read a trace: the steps of a run, one per line, each with its marks on the lines
+after it.
   trace 2 2 0
   ask 1 1 r X
   request 1 1 r X 1
@@ -144,7 +143,7 @@ wrong line and the cause:
 A node's own request raises its highest number. In the algorithm as published in
 1981 it does not, so some of its runs are invalid here.
 
-Example: ra sim --trace < script.toml | ra check
+Example: ra sim --trace script.toml | ra check
 
 With --marks, read a mark log: a line for each request, grant, release and
 withdrawal of any lock service. Each has a node (1 to 64), a client (0 to
@@ -166,7 +165,7 @@ each mark, or `invalid`, the first wrong line and the cause:
               with the same number at a lower node
   NotHeld     a release of what is not held
 
-Example: ra check --marks < service.log
+Example: ra check --marks service.log
 
 With --complete, the status is also 3 if nothing was requested, or if at the end
 a request waits or holds, a client is queued, or a message is under way.
@@ -178,27 +177,27 @@ trace messages, came so far.
 
 Exit status:
   0  valid
-  1  standard input or standard output failed
+  1  the input or standard output failed
   2  the command line was refused, or the input has more than 16777216 bytes and
      is not followed
   3  invalid, or not complete";
 
 /// The help of the command `draw`, below its options.
 pub const DRAW_HELP: &str = "\
-Read a trace from standard input, as `ra sim --trace` prints it and `ra check
---help` describes it. Print its picture as one SVG file, which any browser
-shows. Each node has a lane, and time goes down. An arrow leads from where a
-message was sent to where it was delivered, a cross marks a message that was
-lost, and a loop one that was repeated. Bars beside the lanes are clients that
-are queued, wait or hold. A crossed dot is a client that gives up. Rest the
-pointer on a shape to read what it means.
+Read a trace, as `ra sim --trace` prints it and `ra check --help` describes it.
+Print its picture as one SVG file, which any browser shows. Each node has a
+lane, and time goes down. An arrow leads from where a message was sent to where
+it was delivered, a cross marks a message that was lost, and a loop one that was
+repeated. Bars beside the lanes are clients that are queued, wait or hold. A
+crossed dot is a client that gives up. Rest the pointer on a shape to read what
+it means.
 
-Example: ra sim --trace < script.toml | ra draw > run.svg
+Example: ra sim --trace script.toml | ra draw > run.svg
 
 With --marks, read a mark log, as `ra check --help` describes it. Its picture
 has a row for each mark, and the bars alone.
 
-Example: ra draw --marks < service.log > service.svg
+Example: ra draw --marks service.log > service.svg
 
 At most 4096 lines are drawn: of a longer input, choose a part with --from and
 --to. The lines before it are followed and those after it are checked, but they
@@ -206,15 +205,15 @@ are not drawn.
 
 Exit status:
   0  the input was drawn
-  1  standard input or standard output failed
+  1  the input or standard output failed
   2  the command line was refused, the part to draw has NoLines or is TooLong,
      or the input has more than 16777216 bytes
   3  not valid: the first wrong line is printed, as by `ra check`";
 
 /// The help of the command `cluster`, below its options.
 pub const CLUSTER_HELP: &str = "\
-Read a script from standard input, as `ra sim --help` describes it: 1 to 64
-nodes, and 1 to 64 clients that lock names in these modes:
+Read a script, as `ra sim --help` describes it: 1 to 64 nodes, and 1 to 64
+clients that lock names in these modes:
   S    shared
   X    exclusive
   IS   intent shared
@@ -226,7 +225,7 @@ This one has two clients that want the same name:
   client = [{ node = 1, ops = [\"X r\", \"U r\"] },
             { node = 2, ops = [\"X r\", \"U r\"] }]
 
-Example: ra cluster < script.toml
+Example: ra cluster script.toml
 
 Each node and each client has a thread of its own. The threads decide what comes
 first, so the order of the marks and their numbers may differ from run to run.
@@ -235,11 +234,11 @@ run of the cluster, whose marks and totals are printed.
 
 --trace prints the steps of this run, each with its marks, as `ra check` reads
 them.
-Example: ra cluster --trace < script.toml | ra check
+Example: ra cluster --trace script.toml | ra check
 
 --books prints the books of the nodes, one after the other, as `ra settle` reads
 them: what happened at each node, in order.
-Example: ra cluster --books < script.toml | ra settle
+Example: ra cluster --books script.toml | ra settle
 
 A client that waits in vain would keep the program waiting forever. So two kinds
 of scripts are refused before any thread starts:
@@ -254,7 +253,7 @@ waits at the end.
 
 Exit status:
   0  all operations are done, and nothing waits, is queued, lost or under way
-  1  standard input or standard output failed
+  1  the input or standard output failed
   2  the command line or the script was refused, or the run failed: Fault if a
      node was stopped, for example for lack of memory or threads; Settle,
      PlanUnmet, Lost or UnderWay if the nodes did not record one run of the
@@ -263,8 +262,8 @@ Exit status:
 /// The help of the command `node`, below its options.
 pub const NODE_HELP: &str = "\
 Be one node of a cluster, for a host in any language that carries the frames
-from node to node. Read a book from standard input: what happens at the node,
-one event per line. Answer each line on standard output.
+from node to node. Read a book: what happens at the node, one event per line.
+Answer each line on standard output.
   book 1 NODE NODES START
   ask CLIENT NAME MODE
   release CLIENT NAME
@@ -308,18 +307,18 @@ Example: node 2 of 3 answers a version 1 REQUEST of node 1 for the name r.
 
 Exit status:
   0  the input was read to its end, whatever was refused
-  1  standard input or standard output failed
+  1  the input or standard output failed
   2  the command line was refused, or the first line, which is answered
      `refused Line`";
 
 /// The help of the command `settle`, below its options.
 pub const SETTLE_HELP: &str = "\
-Read the books of all nodes of a cluster from standard input, one after the
-other, each as `ra node --help` describes it. They may be in any order. Find out
-whether they are one run of the cluster: whether each frame that came was sent,
-with its clock, and no message came twice. If they are, print its marks and
-totals, or with --trace its trace, which `ra check` and `ra draw` read.
-Example: cat *.book | ra settle
+Read the books of all nodes of a cluster, one after the other, each as `ra node
+--help` describes it. They may be in any order. Find out whether they are one
+run of the cluster: whether each frame that came was sent, with its clock, and
+no message came twice. If they are, print its marks and totals, or with --trace
+its trace, which `ra check` and `ra draw` read.
+Example: ra settle *.book
 
 With --repeats, frames may come more than once, as happens if a host hands its
 node a frame that was sent again. A frame that comes n times is repeated n - 1
@@ -340,23 +339,24 @@ the first that is NotSent, and then the first that is Twice.
 
 Exit status:
   0  the books settle
-  1  standard input or standard output failed
+  1  the input or standard output failed
   2  the command line was refused, memory ran out, or the input has more than
      1073741824 bytes
   3  invalid";
 
 /// The summary of the help of each command, below its options.
 pub const SUMMARY_HELP: &str = "\
-The command reads standard input. See --help for what it reads and prints, an
-example, and the exit statuses.";
+See --help for what the command reads and prints, an example, and the exit
+statuses.";
 
 /// The help of the program, below its commands.
 pub const STATUS_HELP: &str = "\
-Example: ra sim < script.toml
+Each command has a help of its own: ra help COMMAND.
+Example: ra sim script.toml
 
 Exit status:
   0  done
-  1  standard input or standard output failed
+  1  the input or standard output failed
   2  refused: standard output has the cause as one word
   3  a run did not finish, or a trace, a mark log or books are not valid";
 

@@ -77,7 +77,15 @@ const LONG: OptionRow = OptionRow {
     ..TEXT
 };
 
-/// The option that each command has after its own. It alone has a short name.
+/// The option of each command that leaves out notes. It is looked for before the arguments are parsed.
+const QUIET: OptionRow = OptionRow {
+    name: "quiet",
+    short: Some('q'),
+    help: "Write no notes on standard error",
+    ..FLAG
+};
+
+/// The option that each command has after all others.
 const HELP: OptionRow = OptionRow {
     name: "help",
     short: Some('h'),
@@ -102,6 +110,7 @@ const ANSWER_OPTIONS: &[OptionRow] = &[
         values: Some("1 to 64"),
         ..SHORT
     },
+    QUIET,
     HELP,
 ];
 
@@ -205,6 +214,7 @@ const SIM_OPTIONS: &[OptionRow] = &[
         help: "With --seeds, print the survey as a JSON object",
         ..FLAG
     },
+    QUIET,
     HELP,
 ];
 
@@ -220,6 +230,7 @@ const CLUSTER_OPTIONS: &[OptionRow] = &[
         help: "Print the books in place of marks and totals",
         ..FLAG
     },
+    QUIET,
     HELP,
 ];
 
@@ -240,6 +251,7 @@ const SETTLE_OPTIONS: &[OptionRow] = &[
         help: "Print JSON objects in place of lines of words",
         ..FLAG
     },
+    QUIET,
     HELP,
 ];
 
@@ -273,6 +285,7 @@ const CHECK_OPTIONS: &[OptionRow] = &[
         help: "Print the verdict as a JSON object on one line",
         ..FLAG
     },
+    QUIET,
     HELP,
 ];
 
@@ -298,11 +311,12 @@ const DRAW_OPTIONS: &[OptionRow] = &[
         values: Some("the number of a line, at least that of --from"),
         ..LONG
     },
+    QUIET,
     HELP,
 ];
 
-/// The option of the command `node`.
-const NODE_OPTIONS: &[OptionRow] = &[HELP];
+/// The options of the command `node`.
+const NODE_OPTIONS: &[OptionRow] = &[QUIET, HELP];
 
 /// Returns the options of a command, in their order.
 pub fn options_of(kind: CommandKind) -> &'static [OptionRow<'static>]
