@@ -392,3 +392,23 @@ def checked_marks(text):
             return invalid(number, cause)
         words[word] += 1
     return 0, f"valid\nrequests {words['request']}\ngrants {words['enter']}\n".encode()
+
+
+CAUSES = ("Line", "NodeBusy", "NotAbove", "NotWaiting", "Held", "Earlier", "NotHeld")
+
+
+def checked_all_marks(text):
+    """Returns the status and the standard output of `ra check --marks --all`."""
+    table, words, causes, firsts = Table(), collections.Counter(), collections.Counter(), {}
+    for number, line in enumerate(lines_of(text), 1):
+        word, fields = (form_of(line, 3) or ("", [])) if line is not None else ("", [])
+        is_mark = word in MARKS
+        cause = table.take(word, Entry(*fields)) if is_mark else "Line"
+        if cause:
+            firsts.setdefault(Entry(*fields).name if is_mark else None, f"invalid {number} {cause}")
+            causes[cause] += 1
+        else:
+            words[word] += 1
+    counts = [f"requests {words['request']}", f"grants {words['enter']}"]
+    told = [*firsts.values(), *(f"{it} {causes[it]}" for it in CAUSES if causes[it])] if firsts else ["valid"]
+    return (3 if firsts else 0), "".join(f"{it}\n" for it in told + counts).encode()

@@ -7,7 +7,7 @@ import unittest
 
 from cases import run, shown
 from event_books_model import Book, Receive, answered, settled
-from events_model import Act, Ask, Cancel, EVENTS, Forget, Move, Release, World, checked, checked_marks
+from events_model import Act, Ask, Cancel, EVENTS, Forget, Move, Release, World, checked, checked_all_marks, checked_marks
 from settle_model import LAST_CLOCK, LAST_NUMBER, MODES, Frame, Message, encoded
 
 # Each command, and what the model says of a text.
@@ -19,6 +19,7 @@ COMMANDS = {
     "node": answered,
     "check": checked,
     "check --marks": checked_marks,
+    "check --marks --all": checked_all_marks,
 }
 RUNS = 400
 # Bytes that a line has, and some that it has not.
@@ -134,7 +135,7 @@ def text_for(words, seed):
         choice.shuffle(books)
         return changed(choice, [line for book in books for line in book])
     world = world_of(choice)
-    lines = world.marks() if words == "check --marks" else world.trace(choice.random() < 0.5)
+    lines = world.marks() if "--marks" in words else world.trace(choice.random() < 0.5)
     return changed(choice, [it.encode() for it in lines])
 
 
@@ -173,3 +174,7 @@ class Events(unittest.TestCase):
     def test_mark_logs(self):
         found = {it.split()[-1] for it in self.expect_of("check --marks") if it.startswith("invalid")}
         self.assertLessEqual({"Line", "NodeBusy", "NotWaiting", "NotHeld"}, found)
+
+    def test_mark_logs_with_all_wrong_lines(self):
+        found = {line.split()[0] for it in self.expect_of("check --marks --all") for line in it.splitlines()}
+        self.assertLessEqual({"valid", "invalid", "Line", "NodeBusy", "NotWaiting", "NotHeld"}, found)

@@ -86,7 +86,7 @@ pub fn serve_with_notes<T: Threads + Wait + Sync, R: BufRead + ReadsInputs, W: W
     if given.at_terminal {
         write_waiting_note(asked, notes);
     }
-    let mut progress = Progress::new(alloc, notes);
+    let mut progress = Progress::new(alloc, asked, notes);
     let mut text = Vec::new(alloc);
     let outcome = if let Command::Task(Task::Cluster(printed)) = *asked {
         run_by_threads(rt, alloc, printed, reader, writer)

@@ -6,8 +6,8 @@ use ra_cli::{
     UNFINISHED,
 };
 use ra_notes::{
-    BOOKS_TOO_LONG, FrameCause, NO_BOOK, NO_MEMORY, NO_SEED_DONE, NO_WORD, NoteSource, Notice,
-    SEEDS_LEFT, Unanswered, cluster_notice, frame_notice, log_notice, of_check, of_choices,
+    BOOKS_TOO_LONG, FrameCause, LEFT_OUT, NO_BOOK, NO_MEMORY, NO_SEED_DONE, NO_WORD, NoteSource,
+    Notice, SEEDS_LEFT, Unanswered, cluster_notice, frame_notice, log_notice, of_check, of_choices,
     of_command, of_drawing, of_end, perform_notice, range_note, script_notice, trace_notice,
     unfinished_notice, unsettled_notice, write_hints, write_shrunk_notes,
 };
@@ -50,6 +50,7 @@ fn notice_of(alloc: Global, source: &NoteSource<'_>, remark: Remark) -> Notice {
         Remark::NoTrace { line, cause, due } => {
             trace_notice(alloc, source.judged_text(), line, cause, due)
         },
+        Remark::LeftOut => Notice::Text(LEFT_OUT),
         Remark::NoLog { line, cause } => log_notice(alloc, source, line, cause),
         Remark::Unsettled { line, cause } => unsettled_notice(alloc, source.text, line, cause),
     }

@@ -39,6 +39,7 @@ module _ (arguments : List Text) where
   of_task (task.Check complete form) asks = inl (means _ asks.0 asks.1)
   of_task (task.CheckMarks complete form) asks = inl (means _ asks.0 asks.1)
   of_task (task.Follow kind every complete form) asks = inl (means _ asks.0 asks.1)
+  of_task (task.CheckAll complete) asks = inl (means _ asks.0 asks.1)
   of_task (task.Draw kind part) asks = inl (means _ asks.0 asks.1)
   of_task (task.Cluster printed) asks = inl (means _ asks.0 asks.1)
   of_task (task.Help text) asks = inr (refl, asks)

@@ -1,5 +1,5 @@
 -- The seeds of a survey are in order.
-use Rattle.std.proofs.Common.{◌≡◌, ◌≤◌, ℕ, Bool, true, false, List, [], Option, Some, None, Ok, Err, codes, refl, sym, subst}
+use Rattle.std.proofs.Common.{◌&&◌, ◌≡◌, ◌≤◌, ℕ, Bool, true, false, List, [], Option, Some, None, Ok, Err, codes, refl, sym, subst}
 use Rattle.std.specs.Prelude.{⊤, if◌then◌else◌, nat_le, ok_or, unwrap_or}
 use Rattle.std.specs.Str.{bytes_eq}
 use Rattle.std.proofs.lemmas.Bool.{leb-true}
@@ -18,7 +18,7 @@ use Rattle.ra_arguments.specs.declared.usage_fault.UsageCause.{UsageCause}
 use Rattle.ra_arguments.specs.declared.usage_fault.UsageCause.TheVariants as cause
 use Rattle.ra_arguments.specs.Asked.{AsksForTask, IsTaskFor, meaning_given}
 use Rattle.ra_arguments.specs.declared.command_line.Task.TheVariants as task
-use Rattle.ra_arguments.specs.Meanings.{Meaning, Meant, answer, answer_in, chance_of, check, check_in, cluster, cluster_by, cluster_in, cut_at_dots, draw, draw_in, ending_in, every_in, flag_in, follow, form_in, form_with, kind_in, meaning_in, numeral, part_in, plain_number_in, policy_in, printed_in, run_by, search_by, seeds_between, seeds_in, seeds_of, sim, sim_by, sim_in, survey, survey_by, with_value}
+use Rattle.ra_arguments.specs.Meanings.{Meaning, Meant, answer, answer_in, chance_of, check, check_all, check_in, check_one_in, cluster, cluster_by, cluster_in, cut_at_dots, draw, draw_in, ending_in, every_in, flag_in, follow, form_in, form_with, kind_in, meaning_in, numeral, part_in, plain_number_in, policy_in, printed_in, run_by, search_by, seeds_between, seeds_in, seeds_of, sim, sim_by, sim_in, survey, survey_by, with_value}
 
 InOrder : SeedRange → Type 0
 InOrder seeds = seeds.first ≤ seeds.last
@@ -40,6 +40,7 @@ IsOrdered (Ok (survey asked)) = InOrder asked.seeds
 IsOrdered (Ok (cluster printed)) = ⊤
 IsOrdered (Ok (check kind complete form)) = ⊤
 IsOrdered (Ok (follow kind every complete form)) = ⊤
+IsOrdered (Ok (check_all complete)) = ⊤
 IsOrdered (Ok (draw kind part)) = ⊤
 
 -- what follows from each value, and holds of each cause, holds of the outcome of a value or a cause
@@ -127,14 +128,24 @@ a_following : (kind : InputKind) (every : ℕ) (complete : Bool) (form : Form) �
 unfolding IsOrdered
 a_following kind every complete form = tt
 
-of_check : (rows : List Row) → IsOrdered (Ok (check_in rows))
-of_check rows =
+an_account : (complete : Bool) → IsOrdered (Ok (check_all complete))
+unfolding IsOrdered
+an_account complete = tt
+
+of_check_one : (rows : List Row) → IsOrdered (Ok (check_one_in rows))
+of_check_one rows =
     let kind = kind_in rows in
     let every = every_in rows in
     let complete = flag_in (codes "complete") rows in
     let form = form_in rows in
     either (λ (meaning : Meaning). IsOrdered (Ok meaning)) (flag_in (codes "follow") rows) (follow kind every complete form) (check kind complete form)
     (a_following kind every complete form) (a_check kind complete form)
+
+of_check : (rows : List Row) → IsOrdered (Ok (check_in rows))
+of_check rows =
+    let complete = flag_in (codes "complete") rows in
+    either (λ (meaning : Meaning). IsOrdered (Ok meaning)) (flag_in (codes "marks") rows && flag_in (codes "all") rows) (check_all complete)
+    (check_one_in rows) (an_account complete) (of_check_one rows)
 
 a_drawing : (kind : InputKind) (part : Part) → IsOrdered (Ok (draw kind part))
 unfolding IsOrdered

@@ -90,7 +90,7 @@ cluster_options = flag (codes "trace") ∷ flag (codes "books") ∷ quiet_option
 
 abbrev pub check_options : List Rule
 check_options =
-    flag (codes "marks") ∷ flag (codes "complete") ∷ flag (codes "follow")
+    flag (codes "marks") ∷ flag (codes "all") ∷ flag (codes "complete") ∷ flag (codes "follow")
     ∷ with_default (option (codes "every") long_numbers) (codes "0")
     ∷ flag (codes "json")
     ∷ quiet_option ∷ help_option ∷ []

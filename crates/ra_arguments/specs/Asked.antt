@@ -21,7 +21,7 @@ use Rattle.ra_arguments.specs.declared.usage_fault.UsageFault.{UsageFault}
 use Rattle.ra_arguments.specs.declared.usage_fault.UsageFault.TheVariants as usage
 use Rattle.ra_arguments.specs.Application.{ra_app}
 use Rattle.ra_arguments.specs.Arguments.{AreNodeArguments, AreSimArguments, IsHelpArgument}
-use Rattle.ra_arguments.specs.Meanings.{Meaning, Meant, answer, check, cluster, draw, follow, meaning_in, sim, survey}
+use Rattle.ra_arguments.specs.Meanings.{Meaning, Meant, answer, check, check_all, cluster, draw, follow, meaning_in, sim, survey}
 use Rattle.ra_arguments.specs.SettleArguments.{AreSettleArguments, AsksToSettle}
 
 -- ---- what the parser makes of the arguments
@@ -63,6 +63,7 @@ meaning_as (task.Survey asked) = Some (survey asked)
 meaning_as (task.Check complete form) = Some (check reads.Trace complete form)
 meaning_as (task.CheckMarks complete form) = Some (check reads.Marks complete form)
 meaning_as (task.Follow kind every complete form) = Some (follow kind every complete form)
+meaning_as (task.CheckAll complete) = Some (check_all complete)
 meaning_as (task.Draw kind part) = Some (draw kind part)
 meaning_as (task.Cluster printed) = Some (cluster printed)
 meaning_as (task.Help text) = None

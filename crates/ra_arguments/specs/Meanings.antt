@@ -38,6 +38,8 @@ pub data Meaning : Type 0 where
   check : InputKind → (complete : Bool) → Form → Meaning
   -- the same of a text that may be longer; after how many lines each time it is told what they come to, or 0 for never
   follow : InputKind → (every : ℕ) → (complete : Bool) → Form → Meaning
+  -- of a mark log, each wrong line is told, and whether it has to be complete
+  check_all : (complete : Bool) → Meaning
   draw : InputKind → Part → Meaning
 
 -- a meaning, or the cause why it is missing
@@ -243,10 +245,16 @@ abbrev pub every_in : List Row → ℕ
 every_in rows = unwrap_or (number_in 64 (codes "every") rows) 0
 
 -- a text that is followed may be longer
-abbrev pub check_in : List Row → Meaning
-check_in rows = if flag_in (codes "follow") rows
+abbrev pub check_one_in : List Row → Meaning
+check_one_in rows = if flag_in (codes "follow") rows
     then follow (kind_in rows) (every_in rows) (flag_in (codes "complete") rows) (form_in rows)
     else check (kind_in rows) (flag_in (codes "complete") rows) (form_in rows)
+
+-- only of a mark log, each wrong line can be told
+abbrev pub check_in : List Row → Meaning
+check_in rows = if flag_in (codes "marks") rows && flag_in (codes "all") rows
+    then check_all (flag_in (codes "complete") rows)
+    else check_one_in rows
 
 -- the lines are counted from 1, and the first is at most the last
 abbrev pub part_between : (from to : ℕ) → Option Part

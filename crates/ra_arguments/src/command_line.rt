@@ -80,6 +80,10 @@ pub enum Task<'a> {
         complete: bool,
         form: Form,
     },
+    /// The command `check --marks --all`, and whether the run has to be complete.
+    CheckAll {
+        complete: bool,
+    },
     /// The command `draw`, with what it reads, and the part that is drawn.
     Draw {
         kind: InputKind,

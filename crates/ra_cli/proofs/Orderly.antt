@@ -135,6 +135,7 @@ never_left laws (task.Survey survey) input new before after orderly faithful lef
     false≢true (told laws survey input orderly faithful.0 faithful.1 faithful.2 survey.find output false is)
 never_left laws (task.Check complete form) input new before after orderly faithful left = faithful
 never_left laws (task.CheckMarks complete form) input new before after orderly faithful left = faithful
+never_left laws (task.CheckAll complete) input new before after orderly faithful left = faithful
 never_left laws (task.Follow kind every complete form) input new before after orderly faithful left = faithful
 never_left laws (task.Draw kind part) input new before after orderly faithful left = faithful
 never_left laws (task.Cluster printed) input new before after orderly faithful left = faithful
@@ -151,6 +152,7 @@ always_driven laws (task.Sim name choices format) old new cause faithful (inr (f
 always_driven laws (task.Survey survey) old new cause faithful (fault, is, failed, refuses) = cc
 always_driven laws (task.Check complete form) old new cause faithful refuses = faithful
 always_driven laws (task.CheckMarks complete form) old new cause faithful refuses = faithful
+always_driven laws (task.CheckAll complete) old new cause faithful refuses = faithful
 always_driven laws (task.Follow kind every complete form) old new cause faithful refuses = faithful
 always_driven laws (task.Draw kind part) old new cause faithful refuses = faithful
 always_driven laws (task.Cluster printed) old new cause faithful refuses = faithful
@@ -196,6 +198,7 @@ refused_for_memory laws (task.Survey survey) input new why orderly faithful plai
     of_survey run.Memory is h = refl
 refused_for_memory laws (task.Check complete form) input new why orderly faithful plain reader writer cause = absurd faithful
 refused_for_memory laws (task.CheckMarks complete form) input new why orderly faithful plain reader writer cause = absurd faithful
+refused_for_memory laws (task.CheckAll complete) input new why orderly faithful plain reader writer cause = absurd faithful
 refused_for_memory laws (task.Follow kind every complete form) input new why orderly faithful plain reader writer cause = absurd faithful
 refused_for_memory laws (task.Draw kind part) input new why orderly faithful plain reader writer cause = absurd faithful
 refused_for_memory laws (task.Cluster printed) input new why orderly faithful plain reader writer cause = absurd faithful

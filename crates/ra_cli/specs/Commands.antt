@@ -46,6 +46,8 @@ abbrev pub TellsObserver : Command → (old : Option (List ℕ))
     → (status : ℕ) → Type 0
 TellsObserver (Task (task.Follow kind every complete form)) old trace_before trace_after marks_before marks_after status =
     TellsOfKind kind every old trace_before trace_after marks_before marks_after status
+TellsObserver (Task (task.CheckAll complete)) old trace_before trace_after marks_before marks_after status =
+    marks_after ≡ marks_before
 TellsObserver asked old trace_before trace_after marks_before marks_after status = ⊤
 
 -- no thread is started for the command: it is not `cluster`

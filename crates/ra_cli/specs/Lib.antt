@@ -11,5 +11,6 @@ pub mod Surveyed
 pub mod NodeRun
 pub mod SettleRun
 pub mod Statuses
+pub mod WrongLineChecks
 pub mod Tasks
 pub mod Commands

@@ -18,6 +18,7 @@ use Rattle.ra_text.specs.declared.drawn_part.Part.{Part}
 use Rattle.ra_draw.specs.Drawing.{IsInput}
 use Rattle.ra_cli.specs.Answer.{IsAnswered, Refuses}
 use Rattle.ra_cli.specs.Checks.{Checks, ChecksKind, ChecksMarks, IsVerdictText, RefusesCheck, RefusesCheckOfKind, RefusesCheckOfMarks, most_followed}
+use Rattle.ra_cli.specs.WrongLineChecks.{ChecksAllLines, IsTextOfLines, RefusesAllLines}
 use Rattle.ra_cli.specs.ClusterRun.{IsClusterRun, RunsCluster, RefusesRun}
 use Rattle.ra_cli.specs.InputOutput.{BreaksOff, OfInput, StopsBefore}
 use Rattle.ra_cli.specs.Performs.{PerformsBy}
@@ -68,6 +69,7 @@ IsDoneBy (task.Check complete form) old new before after = Checks 16777216 compl
 IsDoneBy (task.CheckMarks complete form) old new before after = ChecksMarks 16777216 complete form old new before after true
 IsDoneBy (task.Follow kind every complete form) old new before after =
     ChecksKind kind most_followed complete form old new before after true
+IsDoneBy (task.CheckAll complete) old new before after = ChecksAllLines complete old new before after true
 IsDoneBy (task.Draw kind part) old new before after = DrawsPart kind part old new before after
 IsDoneBy (task.Cluster printed) old new before after = RunsCluster printed old new before after
 IsDoneBy (task.Help text) old new before after = ⊥
@@ -83,6 +85,7 @@ IsLeftBy (task.Check complete form) old new before after = Checks 16777216 compl
 IsLeftBy (task.CheckMarks complete form) old new before after = ChecksMarks 16777216 complete form old new before after false
 IsLeftBy (task.Follow kind every complete form) old new before after =
     ChecksKind kind most_followed complete form old new before after false
+IsLeftBy (task.CheckAll complete) old new before after = ChecksAllLines complete old new before after false
 IsLeftBy (task.Draw kind part) old new before after = IsNotDrawn kind old new before after
 IsLeftBy (task.Cluster printed) old new before after = ⊥
 IsLeftBy (task.Help text) old new before after = ⊥
@@ -97,6 +100,7 @@ IsPrintedBy (task.Survey survey) input text = (finished : Bool) × IsTold survey
 IsPrintedBy (task.Check complete form) input text = IsVerdictText reads.Trace complete form input text
 IsPrintedBy (task.CheckMarks complete form) input text = IsVerdictText reads.Marks complete form input text
 IsPrintedBy (task.Follow kind every complete form) input text = IsVerdictText kind complete form input text
+IsPrintedBy (task.CheckAll complete) input text = IsTextOfLines complete input text
 IsPrintedBy (task.Draw kind part) input text = IsDrawing kind part input text
 IsPrintedBy (task.Cluster printed) input text = IsClusterRun printed input text
 IsPrintedBy (task.Help shown) input text = ⊥
@@ -125,6 +129,8 @@ IsCauseFor (task.CheckMarks complete form) old new why = (fault : TraceError) ×
     × RefusesCheckOfMarks 16777216 old new fault
 IsCauseFor (task.Follow kind every complete form) old new why = (fault : TraceError) × (why ≡ refusal.Check fault)
     × RefusesCheckOfKind kind most_followed old new fault
+IsCauseFor (task.CheckAll complete) old new why = (fault : TraceError) × (why ≡ refusal.Check fault)
+    × RefusesAllLines old new fault
 IsCauseFor (task.Draw kind part) old new why = (fault : DrawError) × (why ≡ refusal.Draw fault)
     × RefusesPart kind part old new fault
 IsCauseFor (task.Cluster printed) old new why = (fault : RunScriptError) × (why ≡ refusal.Cluster fault)

@@ -1,5 +1,6 @@
 //! Each command, in its own file, and what some of them share: the text of a script, the trace of a run, and the lines
 //! that they print.
+pub mod all_lines_command;
 pub mod answer_command;
 pub mod check_command;
 pub mod cluster_command;
@@ -14,3 +15,4 @@ pub mod sim_command;
 pub mod survey_command;
 pub mod survey_text;
 pub mod verdict_lines;
+pub mod wrong_lines_text;

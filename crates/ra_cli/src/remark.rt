@@ -32,6 +32,8 @@ pub enum Remark {
         line: u64,
         cause: MarkCause,
     },
+    /// Some lines of the log are wrong and were left out.
+    LeftOut,
     /// The text is a trace in which this many messages were sent, or a run of the lock table, which sends none. It may
     /// have had to be complete, and is not.
     Ends {

@@ -3,6 +3,7 @@ ghost use Rattle.std.specs.Prelude.{◌≡◌, map, string_bytes};
 ghost use Rattle.ra_arguments.specs.Helping.{helps_of};
 ghost use Rattle.ra_cli.specs.Commands.{DoesCommand, NeedsNoThreads, ReadsNothing, Serves, TellsObserver};
 
+use crate::commands::all_lines_command::judge_all_lines;
 use crate::commands::answer_command::respond;
 use crate::commands::check_command::{judge, judge_marks};
 use crate::commands::cluster_command::run_by_threads;
@@ -73,6 +74,9 @@ pub fn do_alone<R: BufRead, W: Write, O: Observer + TraceWatcher + MarksWatcher>
                 form,
             },
         ) => { follow_text(alloc, kind, every, complete, form, reader, writer, observer) }
+        Command::Task(Task::CheckAll { complete }) => {
+            judge_all_lines(alloc, complete, reader, writer, observer)
+        }
         Command::Task(Task::Draw { kind, part }) => {
             draw_part(alloc, kind, part, reader, writer, text)
         }

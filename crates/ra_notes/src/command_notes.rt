@@ -57,7 +57,9 @@ fn left_at_end(
     sent: u128,
 ) -> Result<Option<String>, Memory> {
     match (source.asked, source.seen) {
-        (Command::Task(Task::Follow { .. }), _) => source.followed.log_end(),
+        (Command::Task(Task::Follow { .. } | Task::CheckAll { .. }), _) => {
+            source.followed.log_end()
+        }
         (_, Some(text)) => end_note(alloc, text, sent),
         (_, None) => Err(Memory),
     }

@@ -35,7 +35,7 @@ pub use input_places::{
 };
 pub use inputs::Inputs;
 pub use note_source::{JudgedText, NoteSource};
-pub use note_texts::{BOOKS_TOO_LONG, NO_BOOK, NO_SEED_DONE, NO_WORD, SEEDS_LEFT};
+pub use note_texts::{BOOKS_TOO_LONG, LEFT_OUT, NO_BOOK, NO_SEED_DONE, NO_WORD, SEEDS_LEFT};
 pub use notice::{NO_MEMORY, Notice, write_line};
 pub use progress::{FollowedText, Progress};
 pub use ra_explain::Unanswered;

@@ -24,6 +24,10 @@ pub const NO_WORD: &str = "the choices of this run cannot be written: one repeat
 pub const LEFT_IN_TRACE: &str =
     "not complete: no request was made, or something waits, holds, is queued or under way at the end";
 
+/// What is said of a mark log from which lines were left out.
+pub const LEFT_OUT: &str =
+    "each wrong line was left out, so the log went on as if it were not there";
+
 /// What is said of an input that is too long for a trace or a mark log.
 pub const TOO_MANY_BYTES: &str = "has more than 16777216 bytes";
 

@@ -1,6 +1,8 @@
 //! What is said while a command takes long, and what is kept then for the note on its end.
+use crate::note_texts::mark_cause_text;
 use crate::notice::Notice;
 use crate::seed_progress::SeedProgress;
+use ra_arguments::{Command, Task};
 use ra_explain::{KeptMarks, push_number_in};
 use ra_schedule::{Observer, SeedOutcome};
 use ra_stamp::{Mark, Memory};
@@ -36,12 +38,15 @@ impl FollowedText {
 pub struct Progress<'a, N> {
     seeds: SeedProgress<'a, N>,
     followed: FollowedText,
+    /// Whether it tells wrong lines when they come.
+    tells_wrong_lines: bool,
 }
 
 impl<'a, N: Write> Progress<'a, N> {
     /// Makes the progress of a command that has done nothing yet. It does not allocate.
-    pub fn new(alloc: Global, notes: &'a mut N) -> Progress<'a, N> {
+    pub fn new(alloc: Global, asked: &Command<'_>, notes: &'a mut N) -> Progress<'a, N> {
         Progress {
+            tells_wrong_lines: matches!(asked, Command::Task(Task::CheckAll { .. })),
             seeds: SeedProgress::new(alloc, notes),
             followed: FollowedText {
                 marks: KeptMarks::new(alloc),
@@ -57,7 +62,11 @@ impl<'a, N: Write> Progress<'a, N> {
 
     /// Returns what is kept of a text that was followed.
     pub fn into_followed(self) -> FollowedText {
-        let Progress { seeds: _, followed } = self;
+        let Progress {
+            seeds: _,
+            followed,
+            tells_wrong_lines: _,
+        } = self;
         followed
     }
 
@@ -81,8 +90,14 @@ impl<'a, N: Write> MarksWatcher for Progress<'a, N> {
         self.followed.marks.take(line, mark);
     }
 
-    fn refused(&mut self, _line: u64, read: &Option<Line>, _cause: MarkCause) {
+    fn refused(&mut self, line: u64, read: &Option<Line>, cause: MarkCause) {
         self.followed.wrong = *read;
+        if self.tells_wrong_lines {
+            let notice = self
+                .followed
+                .log_notice(line, cause, mark_cause_text(cause));
+            self.seeds.tell(&notice);
+        }
     }
 
     fn tell(&mut self, so_far: MarksSoFar) {

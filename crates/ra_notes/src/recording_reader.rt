@@ -85,7 +85,7 @@ impl<R> RecordingReader<R> {
     {
         let most = match arguments.get(1) {
             Some(command) if command.as_str() != "check" => RecordedInput::MAX_BYTES,
-            Some(_) if is_given(arguments, "follow") => 0,
+            Some(_) if is_given(arguments, "follow") || is_given(arguments, "all") => 0,
             Some(_) => RecordedInput::MAX_TEXT,
             None => RecordedInput::MAX_BYTES,
         };

@@ -1,5 +1,5 @@
 //! What the user reads while many seeds take long.
-use crate::notice::write_line;
+use crate::notice::{Notice, write_line};
 use ra_explain::push_number_in;
 use ra_schedule::{Observer, RunCost, SeedOutcome};
 use ra_text::Note;
@@ -46,6 +46,11 @@ impl<'a, N: Write> SeedProgress<'a, N> {
     /// Makes a note that is empty so far. It does not allocate.
     pub fn note(&self) -> Note {
         Note::new(self.alloc)
+    }
+
+    /// Writes what there is to say. A failure of the writer is ignored.
+    pub fn tell(&mut self, notice: &Notice) {
+        notice.write(self.notes);
     }
 
     /// Writes a note, but not if memory ran out for it. A failure of the writer is ignored.

@@ -1,7 +1,7 @@
 //! Options that are given but have no effect.
 use crate::given_options::is_given;
 use crate::notice::write_line;
-use ra_arguments::{PolicyName, Task, sim_options};
+use ra_arguments::{InputKind, PolicyName, Task, sim_options};
 use std::io::Write;
 
 /// Returns the word for the policy of a task, or `None` if the task has no policy.
@@ -26,10 +26,24 @@ fn policy_word(task: &Task<'_>) -> Option<&'static str> {
 /// Writes a line for each option that is given for a task but has no effect. It does not allocate, and ignores a failure
 /// of the writer.
 pub fn write_unused_options<N: Write>(arguments: &[String], task: &Task<'_>, notes: &mut N) {
-    if let Task::Check { .. } | Task::CheckMarks { .. } = task
+    if let Task::Check { .. } | Task::CheckMarks { .. } | Task::CheckAll { .. } = task
         && is_given(arguments, "every")
     {
         write_line(notes, "--every is ignored: only --follow uses it");
+    }
+    if let Task::Check { .. }
+    | Task::Follow {
+        kind: InputKind::Trace,
+        ..
+    } = task
+        && is_given(arguments, "all")
+    {
+        write_line(notes, "--all is ignored: only --marks uses it");
+    }
+    if let Task::CheckAll { .. } = task
+        && is_given(arguments, "json")
+    {
+        write_line(notes, "--json is ignored: --all prints words");
     }
     let Some(policy) = policy_word(task) else {
         return;

@@ -28,6 +28,7 @@ pub fn write_waiting_note<N: Write>(asked: &Command<'_>, notes: &mut N) {
         ) => "reading a trace from standard input: type it and then Ctrl-D, or name a file",
         Command::Task(
             Task::CheckMarks { .. }
+            | Task::CheckAll { .. }
             | Task::Follow {
                 kind: InputKind::Marks,
                 ..

@@ -33,6 +33,7 @@ complete -c ra -n '__fish_seen_subcommand_from cluster' -l books -d 'Print the b
 complete -c ra -n '__fish_seen_subcommand_from cluster' -s q -l quiet -d 'Write no notes on standard error'
 complete -c ra -n '__fish_seen_subcommand_from cluster' -s h -l help -d 'Print help, or a summary with -h'
 complete -c ra -n '__fish_seen_subcommand_from check' -l marks -d 'Check the mark log of any lock service, not a trace'
+complete -c ra -n '__fish_seen_subcommand_from check' -l all -d 'With --marks, tell each wrong line, and go on without it'
 complete -c ra -n '__fish_seen_subcommand_from check' -l complete -d 'Fail, too, if nothing was asked for or something is left'
 complete -c ra -n '__fish_seen_subcommand_from check' -l follow -d 'Read a text of any length, as it is written'
 complete -c ra -n '__fish_seen_subcommand_from check' -l every -x -a '' -d 'With --follow, say after each so many lines what came'

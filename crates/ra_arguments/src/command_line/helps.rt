@@ -175,6 +175,11 @@ judged line by line, and the command ends at the first wrong line. With --every
 N, standard error says after each N lines how many requests and grants, or of a
 trace messages, came so far.
 
+With --marks --all, each wrong line is left out, and the log goes on without it.
+At its end, print the first wrong line on each name, and the first that is not a
+mark; how many lines are wrong for each cause; and the numbers of requests and
+grants among the other lines. The input may have any length.
+
 Exit status:
   0  valid
   1  the input or standard output failed

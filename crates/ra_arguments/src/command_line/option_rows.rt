@@ -263,6 +263,11 @@ const CHECK_OPTIONS: &[OptionRow] = &[
         ..FLAG
     },
     OptionRow {
+        name: "all",
+        help: "With --marks, tell each wrong line, and go on without it",
+        ..FLAG
+    },
+    OptionRow {
         name: "complete",
         help: "Fail, too, if nothing was asked for or something is left",
         ..FLAG

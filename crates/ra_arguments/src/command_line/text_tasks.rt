@@ -75,6 +75,9 @@ pub fn check_task<'a>(given: &ArgMatches<'a>) -> Task<'a>
     ensures { IsTaskFor (Ok (check_in (rows_of (found_of given.now)))) result }
 {
     let complete = has_flag(given, "complete");
+    if has_flag(given, "marks") && has_flag(given, "all") {
+        return Task::CheckAll { complete };
+    }
     let form = form_of(given);
     let kind = kind_of(given);
     if has_flag(given, "follow") {

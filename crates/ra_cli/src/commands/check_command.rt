@@ -17,7 +17,7 @@ use std::alloc::Global;
 use std::io::{BufRead, Write};
 
 /// Returns the status of a text that passes the check or not.
-fn status_of(passes: bool) -> u8
+pub fn status_of(passes: bool) -> u8
     ensures { ((result ≡ 0) × (passes ≡ true)) ⊎ ((result ≡ 3) × (passes ≡ false)) }
 {
     if passes { DONE } else { UNFINISHED }

@@ -43,6 +43,16 @@ returns-in-Task-Follow-clause-told g c =
     let is = rw c.in-Task-Follow.is at c.in-Task-Follow.field-0-is in
     rw c.in-Task-Follow.is (rw is c.follow_text.ensures.told)
 
+pub returns-in-Task-CheckAll-clause-does : goal.returns-in-Task-CheckAll-clause-does
+returns-in-Task-CheckAll-clause-does g c =
+    let is = rw c.in-Task-CheckAll.is at c.in-Task-CheckAll.field-0-is in
+    rw c.in-Task-CheckAll.is (rw is c.judge_all_lines.ensures.does)
+
+pub returns-in-Task-CheckAll-clause-told : goal.returns-in-Task-CheckAll-clause-told
+returns-in-Task-CheckAll-clause-told g c =
+    let is = rw c.in-Task-CheckAll.is at c.in-Task-CheckAll.field-0-is in
+    rw c.in-Task-CheckAll.is (rw is c.judge_all_lines.ensures.told)
+
 pub returns-in-Task-Draw-clause-does : goal.returns-in-Task-Draw-clause-does
 returns-in-Task-Draw-clause-does g c =
     let is = rw c.in-Task-Draw.is at c.in-Task-Draw.field-0-is in
