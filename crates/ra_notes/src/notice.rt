@@ -41,6 +41,16 @@ impl Notice {
         let _ = self.write_up_to_a_failure(source, notes);
     }
 
+    /// Writes it as a line while the command runs. By then it is not known how many lines each file has, so the number of
+    /// a line counts those of all files. It does not allocate, and ignores a failure of the writer.
+    pub fn write_early<N: Write>(&self, notes: &mut N) {
+        let _ = match self {
+            Notice::Line { line, text } => write_by_number(notes, *line, text),
+            Notice::Note(text) => write_whole_line(notes, text.as_str()),
+            _ => Ok(()),
+        };
+    }
+
     /// Writes it so.
     ///
     /// # Errors
@@ -117,6 +127,19 @@ fn write_at<N: Write>(
         write_text(notes, " of all)")?;
     }
     write_text(notes, joint)?;
+    write_text(notes, text)?;
+    write_text(notes, "\n")
+}
+
+/// Writes a note about a line, by its number alone. It does not allocate.
+///
+/// # Errors
+///
+/// `WriteFault`: the writer failed.
+fn write_by_number<N: Write>(notes: &mut N, line: u64, text: &str) -> Result<(), WriteFault> {
+    write_text(notes, "ra: line ")?;
+    write_number(notes, line)?;
+    write_text(notes, ": ")?;
     write_text(notes, text)?;
     write_text(notes, "\n")
 }

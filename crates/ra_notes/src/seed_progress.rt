@@ -48,9 +48,9 @@ impl<'a, N: Write> SeedProgress<'a, N> {
         Note::new(self.alloc)
     }
 
-    /// Writes what there is to say. A failure of the writer is ignored.
+    /// Writes what there is to say while the command runs. A failure of the writer is ignored.
     pub fn tell(&mut self, notice: &Notice) {
-        notice.write(self.notes);
+        notice.write_early(self.notes);
     }
 
     /// Writes a note, but not if memory ran out for it. A failure of the writer is ignored.
