@@ -3,9 +3,7 @@ use crate::text_asserting::assert_same;
 use crate::trace_tests::log_readers::{BOTH_INSIDE, TWO_WRITERS};
 use ra_explain::KeptMarks;
 use ra_stamp::{Mark, Memory};
-use ra_trace::{
-    Line, MarkCause, MarksSoFar, MarksVerdict, MarksWatcher, TraceError, follow_marks,
-};
+use ra_trace::{Line, MarkCause, MarksSoFar, MarksVerdict, MarksWatcher, TraceError, follow_marks};
 use std::alloc::Global;
 use test_support::row;
 
