@@ -78,14 +78,15 @@ pub struct RecordingReader<R> {
 
 impl<R> RecordingReader<R> {
     /// Makes one of a reader, for a command with these arguments. The first is the program's name. It does not
-    /// allocate, and reads that follow do so for what they remember, unless memory runs out. Of a text that is followed
-    /// nothing is remembered.
+    /// allocate, and reads that follow do so for what they remember, unless memory runs out. Of a text that is followed, or
+    /// from which wrong lines are left out, nothing is remembered.
     pub fn new(alloc: Global, arguments: &[String], inner: R) -> RecordingReader<R>
         ensures { result.inner ≡ inner }
     {
         let most = match arguments.get(1) {
             Some(command) if command.as_str() != "check" => RecordedInput::MAX_BYTES,
-            Some(_) if is_given(arguments, "follow") || is_given(arguments, "all") => 0,
+            Some(_) if is_given(arguments, "follow") => 0,
+            Some(_) if is_given(arguments, "all") && is_given(arguments, "marks") => 0,
             Some(_) => RecordedInput::MAX_TEXT,
             None => RecordedInput::MAX_BYTES,
         };

@@ -59,7 +59,12 @@ pub fn write_hints<N: Write>(alloc: Global, source: &NoteSource<'_>, is_done: bo
             };
             withdrawals_note(alloc, source.text, drawn)
         }
-        Command::Task(Task::Check { .. } | Task::CheckMarks { .. }) => Ok(None),
+        Command::Task(
+            Task::Check { .. }
+            | Task::CheckMarks { .. }
+            | Task::CheckAll { .. }
+            | Task::Follow { .. },
+        ) => Ok(None),
         Command::Settle(asked) if is_done => settled_note(alloc, source.text, asked.repeats),
         _ => return,
     };

@@ -26,10 +26,15 @@ fn policy_word(task: &Task<'_>) -> Option<&'static str> {
 /// Writes a line for each option that is given for a task but has no effect. It does not allocate, and ignores a failure
 /// of the writer.
 pub fn write_unused_options<N: Write>(arguments: &[String], task: &Task<'_>, notes: &mut N) {
-    if let Task::Check { .. } | Task::CheckMarks { .. } | Task::CheckAll { .. } = task
+    if let Task::Check { .. } | Task::CheckMarks { .. } = task
         && is_given(arguments, "every")
     {
         write_line(notes, "--every is ignored: only --follow uses it");
+    }
+    if let Task::CheckAll { .. } = task
+        && is_given(arguments, "every")
+    {
+        write_line(notes, "--every is ignored: --all does not use it");
     }
     if let Task::Check { .. }
     | Task::Follow {
