@@ -25,7 +25,7 @@ pub record BeginsWrong (text : List ℕ) : Type 0 where
   pub why : Refusal
   pub unread : IsUnread line why
 
--- the lines of the text are these events, in order
+-- the lines of the text are these events, in order; what follows the last line feed is none
 abbrev pub AreEvents : List ℕ → List BookKind → Type 0
 AreEvents text [] = cut 10 text ≡ None
 AreEvents text (kind ∷ kinds) =

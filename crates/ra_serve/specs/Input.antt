@@ -24,7 +24,8 @@ abbrev pub IsPiece : List ℕ → Bool → List ℕ → Type 0
 IsPiece bytes true part = (bytes ≡ part ++ 10 ∷ []) × HasNoFeed part
 IsPiece bytes false part = (bytes ≡ part) × HasNoFeed part
 
--- this many of the bytes that are shown are kept, and they are all unless the line is over
+-- of the bytes that are shown, this many are taken: a part of a line, with its line feed if it is over. Its first bytes
+-- are kept.
 pub record KeepsShown (shown : List ℕ) (old new : List ℕ) (taken : TakenBytes) : Type 0 where
   pub part : List ℕ
   pub within : taken.count ≤ length shown

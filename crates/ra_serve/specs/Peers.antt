@@ -15,7 +15,7 @@ unknown =
       faults = 0 ∷ 0 ∷ 0 ∷ 0 ∷ 0 ∷ 0 ∷ 0 ∷ [];
     }
 
--- what is kept of a host; of one that is not there nothing is known
+-- what is kept of a host, from 1 on; of one beyond the last nothing is known
 abbrev pub peer_of : Base → ℕ → Peer
 peer_of base j = slice_index_or base.peers.items (j - 1) unknown
 
